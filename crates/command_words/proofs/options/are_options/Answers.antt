@@ -1,0 +1,12 @@
+use Rattle.std.proofs.Common.{rules, lit<}
+use borrow.Author.Tests.{tests}
+use Rattle.std.proofs.lemmas.Iterator.Search.{all_from_yields_List}
+use Rattle.std.proofs.lemmas.Iterator.Splits.{YieldsList-from_str_split}
+use Rattle.command_words.specs.Lists.{is_option}
+use Rattle.command_words.proofs.options.are_options.Goals as goal
+
+pub returns : goal.returns
+returns c =
+    all_from_yields_List (is_option c.args.command) _ _ _ c.all.ensures.ran
+    (YieldsList-from_str_split 44 c.args.text.now (lit< tt) c.split.ensures.text c.split.ensures.has_more c.split.ensures.pattern)
+    (λ x b q k. search (rules, tests))

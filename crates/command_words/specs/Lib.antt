@@ -1,0 +1,9 @@
+pub mod Keys
+pub mod Word
+pub mod Digits
+pub mod Lists
+pub mod Table
+pub mod Settings
+pub mod Seen
+pub mod Judged
+pub mod Meaning

@@ -1,0 +1,11 @@
+pub mod Accepts
+pub mod CardLaws
+pub mod Faults
+pub mod Items
+pub mod Loops
+pub mod Lowered
+pub mod NameLaws
+pub mod Places
+pub mod Unique
+pub mod WalkLaws
+pub mod Whole

@@ -1,0 +1,9 @@
+pub mod Counts
+pub mod Reads
+pub mod Writes
+pub mod Tallied
+pub mod Stored
+pub mod MemStored
+pub mod Whole
+pub mod Piece
+pub mod MemSunk

@@ -1,0 +1,17 @@
+pub mod Cases
+pub mod Decks
+pub mod Dumps
+pub mod Kept
+pub mod Laws
+pub mod Linked
+pub mod Merged
+pub mod Names
+pub mod Numbers
+pub mod Places
+pub mod Points
+pub mod Run
+pub mod Scattered
+pub mod Settled
+pub mod TableBytes
+pub mod Tables
+pub mod Tree

@@ -1,0 +1,10 @@
+pub mod Faults
+pub mod Forms
+pub mod Items
+pub mod ItemBytes
+pub mod Relocations
+pub mod Records
+pub mod Reading
+pub mod RldItems
+pub mod Gives
+pub mod Plain

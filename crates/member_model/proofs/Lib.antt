@@ -1,0 +1,4 @@
+pub mod Cutting
+pub mod Runs
+pub mod Fetching
+pub mod Gathered

@@ -1,0 +1,127 @@
+-- The symbol items of a member by their numbers, which count from 1, and its attribute.
+use Rattle.std.specs.Prelude.{ℕ, ◌+◌, ◌-◌, ◌/◌, ◌%◌, Bool, true, false, ◌&&◌, ◌==◌, nat_lt, if◌then◌else◌, List, map, filter, take, slice_get, count_by, Option, None}
+use Rattle.std.specs.Option.{option_map_or}
+use Rattle.le_bytes.specs.Names.{is_blank, name_eq}
+use Rattle.le_bytes.specs.declared.name.Name.{Name}
+use Rattle.sym_mod.specs.Reserved.{is_reserved}
+use Rattle.load_recs.specs.Relocations.{field_kind as kind_of_flag, is_minus as is_minus_flag}
+use Rattle.load_recs.specs.declared.items.SymbolKind.{SymbolKind}
+use Rattle.load_recs.specs.declared.items.SymbolKind.TheVariants.{Sd, Er, Lr, Pc, Cm, Pr, Null, Wx}
+use Rattle.load_recs.specs.declared.items.SymbolItem.{SymbolItem}
+use Rattle.load_recs.specs.declared.items.RldItem.{RldItem}
+use Rattle.pds_lib.specs.declared.entry.Entry.{Entry}
+
+-- ---- the attribute
+
+abbrev pub is_overlay_member : Entry → Bool
+is_overlay_member e = e.attr / 32 % 2 == 1
+
+abbrev pub is_scatter_member : Entry → Bool
+is_scatter_member e = e.attr / 4 % 2 == 1
+
+-- ---- kinds
+
+abbrev pub is_sd : SymbolKind → Bool
+is_sd Sd = true
+is_sd _ = false
+
+abbrev pub is_section_kind : SymbolKind → Bool
+is_section_kind Sd = true
+is_section_kind Pc = true
+is_section_kind Cm = true
+is_section_kind _ = false
+
+-- sections that have text
+abbrev pub is_text_kind : SymbolKind → Bool
+is_text_kind Sd = true
+is_text_kind Pc = true
+is_text_kind _ = false
+
+-- sections that have a name
+abbrev pub is_named_kind : SymbolKind → Bool
+is_named_kind Sd = true
+is_named_kind Cm = true
+is_named_kind _ = false
+
+-- names that are not defined
+abbrev pub is_outside_kind : SymbolKind → Bool
+is_outside_kind Er = true
+is_outside_kind Wx = true
+is_outside_kind _ = false
+
+abbrev pub is_register_kind : SymbolKind → Bool
+is_register_kind Pr = true
+is_register_kind _ = false
+
+-- what an address constant or a call may refer to
+abbrev pub is_referable_kind : SymbolKind → Bool
+is_referable_kind Pr = false
+is_referable_kind Null = false
+is_referable_kind _ = true
+
+-- ---- items
+
+abbrev pub is_section : SymbolItem → Bool
+is_section x = is_section_kind x.kind
+
+abbrev pub end_of : SymbolItem → ℕ
+end_of x = x.address + x.length
+
+abbrev pub symbol_at : List SymbolItem → ℕ → Option SymbolItem
+symbol_at symbols n = if n == 0 then None else slice_get symbols (n - 1)
+
+abbrev pub is_outside : Option SymbolItem → Bool
+is_outside symbol = option_map_or (λ x. is_outside_kind x.kind) symbol false
+
+-- a section without a name: an SD whose name is blank is one, as any PC
+abbrev pub is_private : SymbolItem → Bool
+is_private x = is_text_kind x.kind && is_blank x.name
+
+-- an SD of this name: a table of overlay is one
+abbrev pub is_sd_named : Name → SymbolItem → Bool
+is_sd_named name x = is_sd x.kind && name_eq x.name name
+
+abbrev pub is_table : SymbolItem → Bool
+is_table x = is_sd x.kind && is_reserved x.name
+
+-- the section of item n, which is n, or of a label the section that it names
+abbrev pub section_as : ℕ → ℕ → SymbolKind → ℕ
+section_as n owner Lr = owner
+section_as n owner _ = n
+
+abbrev pub section_of : List SymbolItem → ℕ → ℕ
+section_of symbols n = option_map_or (λ x. section_as n x.length x.kind) (symbol_at symbols n) n
+
+-- the place of item n among the sections, from 1, and 0 where it is none
+abbrev pub section_rank : List SymbolItem → ℕ → ℕ
+section_rank symbols n =
+    if option_map_or is_section (symbol_at symbols n) false then count_by is_section (take n symbols) else 0
+
+abbrev pub address_in_module : List SymbolItem → ℕ → ℕ
+address_in_module symbols n = option_map_or (λ x. x.address) (symbol_at symbols n) 0
+
+abbrev pub section_addresses : List SymbolItem → List ℕ
+section_addresses symbols = map (λ x. x.address) (filter is_section symbols)
+
+-- ---- relocation items
+
+-- 0 A-type, 1 V-type, 2 displacement, 3 total
+abbrev pub field_kind : RldItem → ℕ
+field_kind x = kind_of_flag x.flag
+
+abbrev pub field_length : RldItem → ℕ
+field_length x = x.flag / 4 % 4 + 1
+
+abbrev pub is_minus : RldItem → Bool
+is_minus x = is_minus_flag x.flag
+
+-- A-type and V-type
+abbrev pub is_address_kind : RldItem → Bool
+is_address_kind x = nat_lt (field_kind x) 2
+
+-- bit 0: the symbol is not defined
+abbrev pub is_marked_outside : RldItem → Bool
+is_marked_outside x = nat_lt 127 x.flag
+
+abbrev pub same_field : RldItem → RldItem → Bool
+same_field x y = x.p == y.p && x.address == y.address

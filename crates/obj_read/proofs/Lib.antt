@@ -1,0 +1,13 @@
+pub mod Positions
+pub mod Covered
+pub mod Decks
+pub mod Maps
+pub mod Leaders
+pub mod Gathered
+pub mod Adding
+pub mod Joined
+pub mod Kept
+pub mod Found
+pub mod Labels
+pub mod Patches
+pub mod Sound

@@ -1,0 +1,13 @@
+pub mod Covered
+pub mod Decks
+pub mod Facts
+pub mod Faults
+pub mod Flags
+pub mod Found
+pub mod Indexed
+pub mod Kept
+pub mod Module
+pub mod Placed
+pub mod Readings
+pub mod Steps
+pub mod Wrongs

@@ -1,0 +1,171 @@
+//! The symbolic module that the facts of a deck make.
+ghost use Rattle.std.specs.Prelude.{◌≡◌, ◌<◌, ◌^◌, length, map, take, IfOk};
+ghost use Rattle.obj_read.specs.Module.{symbol_kind, length_for, owner_for, align_for, symbol, base_of, number_or, fragment, entry};
+ghost use Rattle.obj_read.specs.Steps.{made_of};
+
+use crate::constants::constants;
+use crate::dictionary::Dictionary;
+use crate::facts::Facts;
+use crate::numbered::Numbered;
+use le_bytes::{Bytes, Items};
+use obj_cards::{EndStart, EsdItem, EsdKind, TxtCard};
+use std::alloc::{AllocError, Global};
+use sym_mod::{Frag, Item, ItemKind, SymEntry, SymModule};
+
+/// The module of items that have their lengths, of text and of terms.
+///
+/// # Errors
+/// Want of memory.
+pub fn made(alloc: Global, facts: Facts, start: &EndStart) -> Result<SymModule, AllocError>
+    requires { length facts.items < 2 ^ 32 }
+    ensures { IfOk result (λ made. made ≡ made_of facts start.now) }
+{
+    let Facts {
+        items,
+        texts,
+        terms,
+    } = facts;
+    Ok(SymModule {
+        items: symbols(alloc, &items)?,
+        fragments: fragments(alloc, &items, texts.as_slice())?,
+        constants: constants(alloc, &items, terms.as_slice())?,
+        entry: entry(&items, start),
+    })
+}
+
+/// The number of the item with an ESDID, 0 if there is none.
+pub fn number_or(items: &Dictionary, esdid: u32) -> u32
+    requires { length items.now < 2 ^ 32 }
+    ensures { result ≡ number_or items.now esdid }
+{
+    match items.number(esdid) {
+        Some(number) => number as u32,
+        None => 0,
+    }
+}
+
+/// Its assembled address, 0 if there is none.
+pub fn base_of(items: &Dictionary, esdid: u32) -> u32
+    ensures { result ≡ base_of items.now esdid }
+{
+    match items.find(esdid) {
+        Some(found) => found.item.item.address,
+        None => 0,
+    }
+}
+
+fn symbols(alloc: Global, items: &Dictionary) -> Result<Items<Item>, AllocError>
+    requires { length items.now < 2 ^ 32 }
+    ensures { IfOk result (λ made. made ≡ map (symbol items.now) items.now) }
+{
+    let mut made = Items::new(alloc);
+    for x in items.items() {
+        made.push(symbol(items, x))?;
+    }
+    Ok(made)
+}
+
+fn symbol(items: &Dictionary, x: &Numbered) -> Item
+    requires { length items.now < 2 ^ 32 }
+    ensures { result ≡ symbol items.now x.now }
+{
+    Item {
+        name: x.item.name,
+        kind: symbol_kind(x.item.kind, x.item.name.is_blank()),
+        base: x.item.address,
+        length: length_for(&x.item),
+        owner: owner_for(items, &x.item),
+        align: align_for(&x.item),
+    }
+}
+
+/// A section without a name is private code.
+fn symbol_kind(kind: EsdKind, blank: bool) -> ItemKind
+    ensures { result ≡ symbol_kind kind blank }
+{
+    match kind {
+        EsdKind::Sd => { if blank { ItemKind::Pc } else { ItemKind::Sd } }
+        EsdKind::Ld => ItemKind::Label,
+        EsdKind::Er => ItemKind::Er,
+        EsdKind::Pc => ItemKind::Pc,
+        EsdKind::Cm => ItemKind::Cm,
+        EsdKind::Pr => ItemKind::Register,
+        EsdKind::Wx => ItemKind::Wx,
+    }
+}
+
+fn length_for(x: &EsdItem) -> u32
+    ensures { result ≡ length_for x.now x.now.kind }
+{
+    match x.kind {
+        EsdKind::Ld => 0,
+        _ => x.length,
+    }
+}
+
+/// Of a label: the number of its section.
+fn owner_for(items: &Dictionary, x: &EsdItem) -> u32
+    requires { length items.now < 2 ^ 32 }
+    ensures { result ≡ owner_for items.now x.now x.now.kind }
+{
+    match x.kind {
+        EsdKind::Ld => number_or(items, x.length),
+        _ => 0,
+    }
+}
+
+fn align_for(x: &EsdItem) -> u32
+    ensures { result ≡ align_for x.now x.now.kind }
+{
+    match x.kind {
+        EsdKind::Pr => u32::from(x.align) + 1,
+        _ => 0,
+    }
+}
+
+fn fragments(
+    alloc: Global,
+    items: &Dictionary,
+    texts: &[TxtCard],
+) -> Result<Items<Frag>, AllocError>
+    requires { length items.now < 2 ^ 32 }
+    ensures { IfOk result (λ made. made ≡ map (fragment items.now) texts.now) }
+{
+    let mut made = Items::new(alloc);
+    for t in texts {
+        made.push(fragment(alloc, items, t)?)?;
+    }
+    Ok(made)
+}
+
+fn fragment(alloc: Global, items: &Dictionary, t: &TxtCard) -> Result<Frag, AllocError>
+    requires { length items.now < 2 ^ 32 }
+    ensures { IfOk result (λ made. made ≡ fragment items.now t.now) }
+{
+    Ok(Frag {
+        item: number_or(items, t.esdid),
+        offset: t.address.saturating_sub(base_of(items, t.esdid)),
+        bytes: Bytes::from_slice(alloc, used(t))?,
+    })
+}
+
+/// The text in use.
+fn used(t: &TxtCard) -> &[u8]
+    ensures { result.now ≡ take t.now.count t.now.bytes }
+{
+    &t.bytes[..usize::from(t.count).min(56)]
+}
+
+fn entry(items: &Dictionary, start: &EndStart) -> SymEntry
+    requires { length items.now < 2 ^ 32 }
+    ensures { result ≡ entry items.now start.now }
+{
+    match start {
+        EndStart::None => SymEntry::None,
+        EndStart::At(address, esdid) => SymEntry::At(
+            number_or(items, *esdid),
+            address.saturating_sub(base_of(items, *esdid)),
+        ),
+        EndStart::Named(name) => SymEntry::Named(*name),
+    }
+}

@@ -1,0 +1,160 @@
+//! The address constants that terms make, one for each place.
+ghost use Rattle.std.specs.Prelude.{◌≡◌, ◌+◌, ◌<◌, ◌^◌, ◌∷◌, [], length, take, IfOk};
+ghost use Rattle.obj_read.specs.Flags.{kind_of_flag};
+ghost use Rattle.obj_read.specs.Module.{term, target_of, base_for, constant, constants};
+ghost use Rattle.obj_read.specs.Placed.{IsGathered, IsJoined, HasNumber};
+
+use crate::building::{base_of, number_or};
+use crate::dictionary::Dictionary;
+use crate::flags::{is_minus, kind_of, length_of};
+use crate::terms::BytePlace;
+use le_bytes::Items;
+use obj_cards::CardRld;
+use std::alloc::{AllocError, Global};
+use std::collections::HashMap;
+use sym_mod::{Kind, SymConst, SymTarget, SymTerm};
+
+/// The constants of the terms so far, and the number of each by its place.
+#[derive(Drop)]
+struct Gathered {
+    constants: Vec<SymConst>,
+    numbers: HashMap<BytePlace, usize>,
+}
+
+/// The constants in the order of their first terms, each with its terms in order.
+///
+/// # Errors
+/// Want of memory.
+pub fn constants(
+    alloc: Global,
+    items: &Dictionary,
+    terms: &[CardRld],
+) -> Result<Items<SymConst>, AllocError>
+    requires { length items.now < 2 ^ 32 }
+    ensures { IfOk result (λ made. made ≡ constants items.now terms.now) }
+{
+    let mut gathered = Gathered {
+        constants: Vec::new(alloc),
+        numbers: HashMap::new(alloc),
+    };
+    for k in 0..terms.len() {
+        gathered = with_term(alloc, items, terms, k, gathered)?;
+    }
+    let Gathered {
+        constants,
+        numbers: _,
+    } = gathered;
+    Ok(Items::from_vec(constants))
+}
+
+/// The constants of the first `k` terms with term `k`.
+fn with_term(
+    alloc: Global,
+    items: &Dictionary,
+    terms: &[CardRld],
+    k: usize,
+    gathered: Gathered,
+) -> Result<Gathered, AllocError>
+    requires few { length items.now < 2 ^ 32 }
+    requires within { k < length terms.now }
+    requires before { IsGathered items.now (take k terms.now) gathered }
+    ensures { IfOk result (IsGathered items.now (take (k + 1) terms.now)) }
+{
+    let Gathered { constants, numbers } = gathered;
+    let f = terms[k];
+    let place = BytePlace {
+        section: f.p,
+        byte: u64::from(f.address),
+    };
+    match numbers.get(&place).copied() {
+        Some(number) => {
+            let constants = joined(constants, number, term(items, &f))?;
+            Ok(Gathered { constants, numbers })
+        }
+        None => {
+            let numbers = with_number(numbers, place, constants.len())?;
+            let mut constants = constants;
+            constants.push(alone(alloc, items, &f)?)?;
+            Ok(Gathered { constants, numbers })
+        }
+    }
+}
+
+/// The constants, one of them with one more term.
+fn joined(
+    constants: Vec<SymConst>,
+    number: usize,
+    term: SymTerm,
+) -> Result<Vec<SymConst>, AllocError>
+    requires { number < length constants.items }
+    ensures { IfOk result (λ more. IsJoined constants.items more.items number term) }
+{
+    let mut constants = constants;
+    constants[number].terms.push(term)?;
+    Ok(constants)
+}
+
+/// The constant of a term that is alone at its place.
+fn alone(alloc: Global, items: &Dictionary, f: &CardRld) -> Result<SymConst, AllocError>
+    requires { length items.now < 2 ^ 32 }
+    ensures { IfOk result (λ made. made ≡ constant items.now (f.now ∷ []) f.now) }
+{
+    let mut terms = Items::new(alloc);
+    terms.push(term(items, f))?;
+    Ok(SymConst {
+        item: number_or(items, f.p),
+        offset: f.address.saturating_sub(base_of(items, f.p)),
+        length: length_of(f),
+        kind: kind_of(f),
+        terms,
+    })
+}
+
+fn with_number(
+    numbers: HashMap<BytePlace, usize>,
+    place: BytePlace,
+    number: usize,
+) -> Result<HashMap<BytePlace, usize>, AllocError>
+    ensures { IfOk result (λ more. HasNumber numbers more place number) }
+{
+    let mut numbers = numbers;
+    if numbers.contains_key(&place) {
+        return Ok(numbers);
+    }
+    numbers.insert(place, number)?;
+    Ok(numbers)
+}
+
+fn term(items: &Dictionary, f: &CardRld) -> SymTerm
+    requires { length items.now < 2 ^ 32 }
+    ensures { result ≡ term items.now f.now }
+{
+    SymTerm {
+        minus: is_minus(f),
+        target: target_of(items, f),
+        base: base_for(items, f),
+    }
+}
+
+fn target_of(items: &Dictionary, f: &CardRld) -> SymTarget
+    requires { length items.now < 2 ^ 32 }
+    ensures { result ≡ target_of items.now f.now (kind_of_flag f.now.flag) }
+{
+    match kind_of(f) {
+        Kind::Address | Kind::Branch => SymTarget::Own(number_or(items, f.r)),
+        Kind::Displacement => match items.find(f.r) {
+            Some(found) => SymTarget::Register(found.item.item.name),
+            None => SymTarget::Total,
+        },
+        Kind::Total => SymTarget::Total,
+    }
+}
+
+fn base_for(items: &Dictionary, f: &CardRld) -> u32
+    ensures { result ≡ base_for items.now f.now (kind_of_flag f.now.flag) }
+{
+    match kind_of(f) {
+        Kind::Address | Kind::Branch => base_of(items, f.r),
+        _ => 0,
+    }
+}

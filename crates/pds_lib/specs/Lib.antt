@@ -1,0 +1,12 @@
+pub mod Parts
+pub mod Answers
+pub mod Header
+pub mod Directory
+pub mod Places
+pub mod Order
+pub mod Contents
+pub mod Stored
+pub mod Forms
+pub mod Grammar
+pub mod Stow
+pub mod Rows

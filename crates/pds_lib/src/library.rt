@@ -1,0 +1,135 @@
+//! A library: its members by name, with their records.
+ghost use Rattle.std.specs.Prelude.{◌≡◌, ◌<◌, length, slice_get, IsTrue};
+ghost use Rattle.std.specs.Option.{option_copied};
+ghost use Rattle.std.specs.List.{list_all};
+ghost use Rattle.pds_lib.specs.Stored.{stored, is_few};
+
+use crate::entry::{Entry, Span};
+use crate::kinds::{LibKind, Version};
+use crate::parts::read_places;
+use crate::records::{Form, Records};
+use crate::table::{Store, Table, find_row, store_of};
+use le_bytes::{Bytes, Items, Name};
+use std::alloc::Global;
+use std::marker::Model;
+
+/// The members of a library in the order of their names. Records that were read are parts of the image
+/// that was read, and are not copied.
+#[derive(Drop)]
+pub struct Library {
+    pub(crate) version: Version,
+    pub(crate) kind: LibKind,
+    pub(crate) image: Vec<u8>,
+    pub(crate) places: Vec<Span>,
+    pub(crate) given: Vec<Items<Bytes>>,
+    pub(crate) table: Table,
+}
+
+impl Model for Library {
+    ghost use Rattle.std.specs.Prelude.{◌≡◌, ◌<◌, map, length, IsTrue};
+    ghost use Rattle.std.specs.List.{list_all};
+    ghost use Rattle.pds_lib.specs.Contents.{Contents, record_count};
+    ghost use Rattle.pds_lib.specs.Stored.{held, row_is_there, is_few};
+
+    ghost Value = { Contents };
+
+    ghost view = { λ l. record { version = l.version; kind = l.kind; members = map (held l.image.items l.places.items l.given.items) l.table } };
+
+    ghost invariant = { λ l. (length l.places.items < 16777216) × IsTrue (list_all is_few l.given.items) × IsTrue (list_all (row_is_there (length l.given.items)) l.table) };
+}
+
+fn entry_at(entries: &[Entry], k: usize) -> Option<&Entry>
+    ensures { option_copied result ≡ slice_get entries.now k }
+{
+    entries.get(k)
+}
+
+/// The records that are kept so.
+fn lend<'a>(
+    image: &'a [u8],
+    places: &'a [Span],
+    given: &'a [Items<Bytes>],
+    store: Store,
+) -> Records<'a>
+    requires places { length places.now < 16777216 }
+    requires given { IsTrue (list_all is_few given.now) }
+    ensures { result ≡ stored image.now places.now given.now store }
+{
+    match store {
+        Store::Read { first, count } => {
+            Records::new(Form::Read(image, read_places(places, first, count)))
+        }
+        Store::Given(i) => match given.get(i) {
+            None => Records::new(Form::Given(&[])),
+            Some(records) => Records::new(Form::Given(records.as_slice())),
+        },
+    }
+}
+
+impl Library {
+    ghost use Rattle.std.specs.Prelude.{◌≡◌, [], IsTrue};
+    ghost use Rattle.std.specs.Option.{option_copied};
+    ghost use Rattle.pds_lib.specs.Contents.{Contents, entries_of, find_entry, records_of};
+
+    /// A library of no members. Keeps the allocator and takes no memory.
+    pub fn empty(alloc: Global, kind: LibKind, version: Version) -> Library
+        ensures { result ≡ record { version = version; kind = kind; members = [] } }
+    {
+        Library {
+            version,
+            kind,
+            image: Vec::new(alloc),
+            places: Vec::new(alloc),
+            given: Vec::new(alloc),
+            table: Table::new(alloc),
+        }
+    }
+
+    /// What its records are.
+    pub fn kind(&self) -> LibKind
+        ensures { result ≡ self.now.kind }
+    {
+        self.kind
+    }
+
+    /// How the lengths of records stand in its image.
+    pub fn version(&self) -> Version
+        ensures { result ≡ self.now.version }
+    {
+        self.version
+    }
+
+    /// The entries, ascending by name.
+    pub fn entries(&self) -> &[Entry]
+        ensures { result.now ≡ entries_of self.now }
+    {
+        self.table.entries()
+    }
+
+    /// The entry with a name, main or alias; None exactly where there is none. The cost is the logarithm
+    /// of the number of entries.
+    pub fn find(&self, n: &Name) -> Option<&Entry>
+        ensures { option_copied result ≡ find_entry self.now n.now }
+    {
+        match find_row(self.table.rows(), n) {
+            None => None,
+            Some(k) => entry_at(self.table.entries(), k),
+        }
+    }
+
+    /// The records of the member of an entry, as it stands in this library; none for an entry of another
+    /// name. The cost is the logarithm of the number of entries.
+    pub fn records(&self, e: &Entry) -> Records<'_>
+        ensures { result ≡ records_of self.now e.now }
+    {
+        match store_of(self.table.rows(), &e.name) {
+            None => Records::new(Form::Given(&[])),
+            Some(store) => lend(
+                self.image.as_slice(),
+                self.places.as_slice(),
+                self.given.as_slice(),
+                store,
+            ),
+        }
+    }
+}
