@@ -69,6 +69,19 @@ records_found image places given rows n =
     ap (λ (o : Option Held). option_map_or (λ (h : Held). h.records) o []) (find-map (λ (h : Held). name_eq h.entry.name n) (held image places given) rows)
     ∙ records_in image places given (find (with_name n) rows)
 
+data_in : (image : List ℕ) (places : List Span) (given : List (List (List ℕ))) (o : Option Row)
+    → option_map_or (λ (h : Held). h.user_data) (option_map (held image places given) o) [] ≡ option_map_or (λ (r : Row). part image r.user_data) o []
+data_in image places given None = refl
+data_in image places given (Some r) = refl
+
+-- the user data that a look-up in the rows finds
+pub data_found : (image : List ℕ) (places : List Span) (given : List (List (List ℕ))) (rows : List Row) (n : Name)
+    → option_map_or (λ (h : Held). h.user_data) (find (λ (h : Held). name_eq h.entry.name n) (members image places given rows)) []
+    ≡ option_map_or (λ (r : Row). part image r.user_data) (find (with_name n) rows) []
+data_found image places given rows n =
+    ap (λ (o : Option Held). option_map_or (λ (h : Held). h.user_data) o []) (find-map (λ (h : Held). name_eq h.entry.name n) (held image places given) rows)
+    ∙ data_in image places given (find (with_name n) rows)
+
 -- what is read so has few records
 pub read_few : (image : List ℕ) (places : List Span) (first count : ℕ) → length places < 16777216
     → length (map (part image) (take count (drop first places))) < 16777216

@@ -32,6 +32,10 @@ find_entry lib n = find (λ (e : Entry). name_eq e.name n) (entries_of lib)
 abbrev pub records_of : Contents → Entry → List (List ℕ)
 records_of lib e = option_map_or (λ (h : Held). h.records) (find (λ (h : Held). name_eq h.entry.name e.name) lib.members) []
 
+-- the user data that are kept of an entry
+abbrev pub user_data_of : Contents → Entry → List ℕ
+user_data_of lib e = option_map_or (λ (h : Held). h.user_data) (find (λ (h : Held). name_eq h.entry.name e.name) lib.members) []
+
 -- the records that an entry adds: of a main entry its own and the one that ends them
 abbrev pub entry_count : Held → ℕ
 entry_count h = if h.entry.alias then 0 else length h.records + 1

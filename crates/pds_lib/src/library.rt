@@ -1,14 +1,16 @@
 //! A library: its members by name, with their records.
-ghost use Rattle.std.specs.Prelude.{◌≡◌, ◌<◌, length, slice_get, IsTrue};
-ghost use Rattle.std.specs.Option.{option_copied};
+ghost use Rattle.std.specs.Prelude.{◌≡◌, ◌<◌, [], length, slice_get, IsTrue};
+ghost use Rattle.std.specs.Option.{option_copied, option_map_or};
 ghost use Rattle.std.specs.List.{list_all};
+ghost use Rattle.pds_lib.specs.Parts.{part};
 ghost use Rattle.pds_lib.specs.Stored.{stored, is_few};
+ghost use Rattle.pds_lib.specs.declared.table.Row.{Row};
 
 use crate::entry::{Entry, Span};
 use crate::kinds::{LibKind, Version};
-use crate::parts::read_places;
+use crate::parts::{part, read_places};
 use crate::records::{Form, Records};
-use crate::table::{Store, Table, find_row, store_of};
+use crate::table::{Row, Store, Table, find_row, store_of};
 use le_bytes::{Bytes, Items, Name};
 use std::alloc::Global;
 use std::marker::Model;
@@ -44,6 +46,15 @@ fn entry_at(entries: &[Entry], k: usize) -> Option<&Entry>
     entries.get(k)
 }
 
+fn data_at<'a>(image: &'a [u8], rows: &[Row], k: usize) -> &'a [u8]
+    ensures { result.now ≡ option_map_or (λ (r : Row). part image.now r.user_data) (slice_get rows.now k) [] }
+{
+    match rows.get(k) {
+        None => &[],
+        Some(r) => part(image, r.user_data),
+    }
+}
+
 /// The records that are kept so.
 fn lend<'a>(
     image: &'a [u8],
@@ -69,7 +80,7 @@ fn lend<'a>(
 impl Library {
     ghost use Rattle.std.specs.Prelude.{◌≡◌, [], IsTrue};
     ghost use Rattle.std.specs.Option.{option_copied};
-    ghost use Rattle.pds_lib.specs.Contents.{Contents, entries_of, find_entry, records_of};
+    ghost use Rattle.pds_lib.specs.Contents.{Contents, entries_of, find_entry, records_of, user_data_of};
 
     /// A library of no members. Keeps the allocator and takes no memory.
     pub fn empty(alloc: Global, kind: LibKind, version: Version) -> Library
@@ -130,6 +141,17 @@ impl Library {
                 self.given.as_slice(),
                 store,
             ),
+        }
+    }
+
+    /// The user data of an entry, as it stands in this library; none for an entry of another name, and
+    /// none in a library of load modules. The cost is the logarithm of the number of entries.
+    pub fn user_data(&self, e: &Entry) -> &[u8]
+        ensures { result.now ≡ user_data_of self.now e.now }
+    {
+        match find_row(self.table.rows(), &e.name) {
+            None => &[],
+            Some(k) => data_at(self.image.as_slice(), self.table.rows(), k),
         }
     }
 }

@@ -1,0 +1,4 @@
+pub mod Spelling
+pub mod Image
+pub mod Firsts
+pub mod Lengths

@@ -1,0 +1,133 @@
+ghost use Rattle.std.specs.Prelude.{◌≡◌, ◌<◌, ◌≤◌, ◌+◌, ◌^◌, ℕ, List, length, IfOk};
+ghost use Rattle.std.specs.List.{AllByRecursion};
+
+use crate::*;
+use le_bytes::{Bytes, Items, Memory, Name};
+use pds_lib::{LibKind, Library, Member, Version};
+use std::alloc::{AllocError, Global};
+use std::test::Fail;
+
+/// Header and directory of a library of one load module, TEMPNAME, as far as the last entry.
+const FRONT: [u8; 58] = [
+    0xD7, 0xC4, 0xE2, 0xC9, 0xD4, 0xC1, 0xC7, 0xC5, 0x01, 0xE4, 0, 0, 0, 0, 0, 1, 0, 0, 0, 5, 0x00,
+    0x26, 0xE3, 0xC5, 0xD4, 0xD7, 0xD5, 0xC1, 0xD4, 0xC5, 0, 0, 1, 0x06, 0, 0, 0, 0, 8, 0, 0, 0, 0,
+    0, 0, 1, 0xFF, 0xFF, 0xFF, 0xFF, 0xFF, 0xFF, 0xFF, 0xFF, 0, 0, 0, 0,
+];
+
+/// Its four records, and the one that ends the member.
+const RECORDS: [u8; 86] = [
+    0x00, 0x18, 0x20, 0, 0, 0, 0, 1, 0, 0x10, 0xC1, 0x40, 0x40, 0x40, 0x40, 0x40, 0x40, 0x40, 0, 0,
+    0, 0, 1, 0, 0, 8, 0x00, 0x14, 0x01, 0, 0, 0, 0, 0, 0, 4, 6, 0, 0, 0, 0, 0, 0, 8, 0, 1, 0, 8,
+    0x00, 0x08, 0, 0, 0, 0, 0, 0, 0, 4, 0x00, 0x18, 0x0E, 0, 0, 0, 0, 8, 0, 0, 0, 0, 0, 0, 0, 0, 0,
+    0, 0, 1, 0, 1, 0x0C, 0, 0, 4, 0x00, 0x00,
+];
+
+/// A library of one member of one card behind a dead record. Its entry has user data X'AABB' and a
+/// count of one TTR in them.
+const CARDS: [u8; 48] = [
+    0xD7, 0xC4, 0xE2, 0xC9, 0xD4, 0xC1, 0xC7, 0xC5, 0x01, 0xC6, 0, 7, 0, 0, 0, 1, 0, 0, 0, 3, 0x00,
+    0x1C, 0xC1, 0xC2, 0xC3, 0xC4, 0xC5, 0xC6, 0xC7, 0xC8, 0, 0, 2, 0x21, 0xAA, 0xBB, 0xFF, 0xFF,
+    0xFF, 0xFF, 0xFF, 0xFF, 0xFF, 0xFF, 0, 0, 0, 0,
+];
+
+/// `front` with zero bytes up to the end of the first block.
+fn block(alloc: Global, front: &[u8]) -> Result<Vec<u8>, AllocError> {
+    let mut image = Vec::from_slice(alloc, front)?;
+    for _ in front.len()..276 {
+        image.push(0)?;
+    }
+    Ok(image)
+}
+
+fn sample(alloc: Global) -> Result<Vec<u8>, AllocError> {
+    let mut image = block(alloc, &FRONT)?;
+    image.extend_from_slice(&RECORDS)?;
+    Ok(image)
+}
+
+fn cards(alloc: Global, front: &[u8], ends: &[u8]) -> Result<Vec<u8>, AllocError> {
+    let mut image = block(alloc, front)?;
+    image.extend_from_slice(ends)?;
+    image.extend_from_slice(&[0, 80])?;
+    for _ in 0..80 {
+        image.push(0x40)?;
+    }
+    image.extend_from_slice(&[0, 0])?;
+    Ok(image)
+}
+
+/// None where the image is longer than is written.
+fn image_of(alloc: Global, library: &Library) -> Result<Option<Vec<u8>>, Memory> {
+    if image_length(library) > 67_108_864 {
+        return Ok(None);
+    }
+    Ok(Some(image(library, alloc)?))
+}
+
+#[test]
+fn sample_is_written_as_it_was_read(rt: HostRuntime) -> Result<(), Fail> {
+    let library = Library::read(rt.alloc(), sample(rt.alloc())?)?;
+    assert_eq!(rt; image_length(&library), 362);
+    let written = image_of(rt.alloc(), &library)?.ok_or("an image")?;
+    assert!(rt; written.as_slice() == sample(rt.alloc())?.as_slice());
+    Ok(())
+}
+
+#[test]
+fn cards_keep_user_data_and_lose_dead_records(rt: HostRuntime) -> Result<(), Fail> {
+    let library = Library::read(rt.alloc(), cards(rt.alloc(), &CARDS, &[0, 0])?)?;
+    assert_eq!(rt; image_length(&library), 360);
+    let mut front = CARDS;
+    front[11] = 0;
+    front[19] = 2;
+    front[32] = 1;
+    front[33] = 0x01;
+    let written = image_of(rt.alloc(), &library)?.ok_or("an image")?;
+    assert!(rt; written.as_slice() == cards(rt.alloc(), &front, &[])?.as_slice());
+    Ok(())
+}
+
+fn record(alloc: Global, from: usize, len: usize) -> Result<Bytes, AllocError>
+    requires within { from + len ≤ 86 }
+    ensures { IfOk result (λ b. length b ≡ len) }
+{
+    Bytes::from_slice(alloc, &RECORDS[from..from + len])
+}
+
+fn records(alloc: Global) -> Result<Items<Bytes>, AllocError>
+    ensures { IfOk result (λ rs. AllByRecursion (λ (r : List ℕ). (0 < length r) × (length r < 2 ^ 16)) rs) }
+{
+    let mut all = Items::new(alloc);
+    all.push(record(alloc, 2, 24)?)?;
+    all.push(record(alloc, 28, 20)?)?;
+    all.push(record(alloc, 50, 8)?)?;
+    all.push(record(alloc, 60, 24)?)?;
+    Ok(all)
+}
+
+#[test]
+fn sample_in_the_second_version(rt: HostRuntime) -> Result<(), Fail> {
+    let mut library = Library::empty(rt.alloc(), LibKind::Modules, Version::Two);
+    let member = Member {
+        name: Name([0xE3, 0xC5, 0xD4, 0xD7, 0xD5, 0xC1, 0xD4, 0xC5]),
+        aliases: Items::new(rt.alloc()),
+        attr: 0,
+        length: 8,
+        entry: 0,
+        entry_section: 1,
+        records: records(rt.alloc())?,
+    };
+    library.stow(rt.alloc(), member, false)?;
+    assert_eq!(rt; image_length(&library), 372);
+    let written = image_of(rt.alloc(), &library)?.ok_or("an image")?;
+    let mut wanted = block(rt.alloc(), &FRONT)?;
+    if let Some(version) = wanted.get_mut(8) {
+        *version = 2;
+    }
+    for (from, len) in [(2usize, 24usize), (28, 20), (50, 8), (60, 24), (86, 0)] {
+        wanted.extend_from_slice(&[0, 0, 0, len as u8])?;
+        wanted.extend_from_slice(RECORDS.get(from..from + len).ok_or("a record")?)?;
+    }
+    assert!(rt; written.as_slice() == wanted.as_slice());
+    Ok(())
+}

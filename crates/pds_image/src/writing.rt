@@ -1,0 +1,67 @@
+//! The image as a whole.
+ghost use Rattle.std.specs.Prelude.{◌≡◌, ◌≤◌, ◌/◌, ◌++◌, length, IfOk, OnOk};
+ghost use Rattle.pds_lib.specs.Contents.{entries_of};
+ghost use Rattle.pds_image.specs.Spelling.{version_byte, kind_byte};
+ghost use Rattle.pds_image.specs.Image.{records_in, directory_bytes, header_bytes, written};
+
+use crate::directory::directory_bytes;
+use crate::members::{count_records, first_records, put_bodies};
+use crate::numbers::put4;
+use le_bytes::Memory;
+use pds_lib::{LibKind, Library, Version};
+use std::alloc::{AllocError, Global};
+
+/// The eight letters PDSIMAGE in EBCDIC.
+const MARK: [u8; 8] = [0xD7, 0xC4, 0xE2, 0xC9, 0xD4, 0xC1, 0xC7, 0xC5];
+
+fn version_byte(version: Version) -> u8
+    ensures { result ≡ version_byte version }
+{
+    match version {
+        Version::One => 1,
+        Version::Two => 2,
+    }
+}
+
+fn kind_byte(kind: LibKind) -> u8
+    ensures { result ≡ kind_byte kind }
+{
+    match kind {
+        LibKind::Cards => 0xC6,
+        LibKind::Modules => 0xE4,
+    }
+}
+
+#[tactic(auto, unfolding(crate::specs::Image::header_bytes))]
+fn put_header(out: &mut Vec<u8>, library: &Library, blocks: usize) -> Result<(), AllocError>
+    requires records { records_in library.now (entries_of library.now) ≤ 67108864 }
+    requires blocks { blocks ≡ length (directory_bytes library.now) / 256 }
+    ensures { OnOk result (out.new.items ≡ out.old.items ++ header_bytes library.now) }
+{
+    out.extend_from_slice(&MARK)?;
+    out.push(version_byte(library.version()))?;
+    out.push(kind_byte(library.kind()))?;
+    out.push(0)?;
+    out.push(0)?;
+    put4(out, blocks as u64)?;
+    put4(out, count_records(library))
+}
+
+/// The image of a library: its members in the order of their main names, each with the record that ends
+/// it, and each entry in the directory block before it as long as it goes in. What reading an image did
+/// not look at is zero. The cost is linear in the image, and n log n in its entries.
+///
+/// # Errors
+/// Want of memory.
+pub fn image(library: &Library, alloc: Global) -> Result<Vec<u8>, Memory>
+    requires { length (written library.now) ≤ 67108864 }
+    ensures { IfOk result (λ v. v.items ≡ written library.now) }
+{
+    let firsts = first_records(alloc, library)?;
+    let directory = directory_bytes(alloc, library, &firsts)?;
+    let mut out = Vec::new(alloc);
+    put_header(&mut out, library, directory.len() / 256)?;
+    out.extend_from_slice(directory.as_slice())?;
+    put_bodies(&mut out, library)?;
+    Ok(out)
+}
