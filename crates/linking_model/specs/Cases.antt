@@ -1,4 +1,4 @@
--- Worked cases, laid out, with the words in which their rows are said.
+-- Worked cases, laid out, with the words in which their rows are said (this project's profile).
 use Rattle.std.specs.Prelude.{ℕ, List, [], ◌∷◌, map, Option}
 use Rattle.std.specs.List.{range_with_len}
 use Rattle.le_bytes.specs.declared.record_what.EventWhat.{EventWhat}
@@ -23,21 +23,27 @@ laid_plain modules = laid_over plain [] modules
 
 -- ---- one segment
 
+-- the program in which MAIN holds X minus Y
 abbrev pub difference : Laid
 difference = laid_plain difference_modules
 
+-- the program in which two sections have one name
 abbrev pub twice : Laid
 twice = laid_plain twice_modules
 
+-- the program with blank common and a weak name
 abbrev pub commons : Laid
 commons = laid_plain common_modules
 
+-- the program with registers and their total
 abbrev pub registering : Laid
 registering = laid_plain register_modules
 
+-- the program of three sections that is scattered
 abbrev pub scattering : Laid
 scattering = laid_plain scatter_modules
 
+-- the program with a common area and a library routine
 abbrev pub fortran : Laid
 fortran = laid_plain fortran_modules
 
@@ -86,6 +92,7 @@ dump M a n = map M (range_with_len a n)
 abbrev pub outcomes : Laid → List Event → List Outcome
 outcomes P events = (run P (block P 0x1000) events).outcomes
 
+-- the refusal that ends such a run, none where it goes to the end
 abbrev pub refusal : Laid → List Event → Option EventWhat
 refusal P events = (run P (block P 0x1000) events).refusal
 

@@ -1,4 +1,4 @@
--- Worked cases, as the modules that are read and the segments in which they come.
+-- Worked cases, as the modules that are read and the segments in which they come (this project's profile).
 use Rattle.std.specs.Prelude.{ℕ, true, false, List, [], ◌∷◌, replicate}
 use Rattle.le_bytes.specs.declared.name.Name.{Name}
 use Rattle.sym_mod.specs.declared.module.Kind.{Kind}
@@ -17,89 +17,117 @@ use Rattle.linking_model.specs.Kept.{Read}
 
 -- ---- names
 
+-- a name of one character
 abbrev pub of_one : ℕ → Name
 of_one a = record { 0 = a ∷ replicate 7 64 }
 
+-- a name of two characters
 abbrev pub of_two : ℕ → ℕ → Name
 of_two a b = record { 0 = a ∷ b ∷ replicate 6 64 }
 
+-- a name of three characters
 abbrev pub of_three : ℕ → ℕ → ℕ → Name
 of_three a b c = record { 0 = a ∷ b ∷ c ∷ replicate 5 64 }
 
+-- a name of four characters
 abbrev pub of_four : ℕ → ℕ → ℕ → ℕ → Name
 of_four a b c d = record { 0 = a ∷ b ∷ c ∷ d ∷ replicate 4 64 }
 
+-- the name of blank common and of private code
 abbrev pub blank_name : Name
 blank_name = record { 0 = replicate 8 64 }
 
+-- A
 abbrev pub a_name : Name
 a_name = of_one 193
 
+-- B
 abbrev pub b_name : Name
 b_name = of_one 194
 
+-- C
 abbrev pub c_name : Name
 c_name = of_one 195
 
+-- Q
 abbrev pub q_name : Name
 q_name = of_one 216
 
+-- W
 abbrev pub w_name : Name
 w_name = of_one 230
 
+-- X
 abbrev pub x_name : Name
 x_name = of_one 231
 
+-- Y
 abbrev pub y_name : Name
 y_name = of_one 232
 
+-- P1
 abbrev pub p1_name : Name
 p1_name = of_two 215 241
 
+-- P2
 abbrev pub p2_name : Name
 p2_name = of_two 215 242
 
+-- S1
 abbrev pub s1_name : Name
 s1_name = of_two 226 241
 
+-- S2
 abbrev pub s2_name : Name
 s2_name = of_two 226 242
 
+-- S3
 abbrev pub s3_name : Name
 s3_name = of_two 226 243
 
+-- SUB
 abbrev pub sub_name : Name
 sub_name = of_three 226 228 194
 
+-- MAIN
 abbrev pub main_name : Name
 main_name = of_four 212 193 201 213
 
+-- ROOT
 abbrev pub root_name : Name
 root_name = of_four 217 214 214 227
 
+-- SUB2
 abbrev pub sub2_name : Name
 sub2_name = of_four 226 228 194 242
 
 -- ---- parts of modules
 
+-- an item that is no register, and whose section, if it is a label, is the first item
 abbrev pub item : Name → ItemKind → ℕ → ℕ → Item
 item name kind base length = record { name = name; kind = kind; base = base; length = length; owner = 0; align = 0 }
 
+-- an SD, assembled at 0
 abbrev pub section : Name → ℕ → Item
 section name length = item name Sd 0 length
 
+-- an ER
 abbrev pub reference : Name → Item
 reference name = item name Er 0 0
 
+-- a label of the first item
 abbrev pub label_in_first : Name → ℕ → Item
 label_in_first name base = item name Label base 0
 
+-- a pseudo-register
 abbrev pub register : Name → ℕ → ℕ → Item
 register name length align = record { name = name; kind = Register; base = 0; length = length; owner = 0; align = align }
 
+-- a term that is added, its target assembled at 0
 abbrev pub plus : SymTarget → SymTerm
 plus target = record { minus = false; target = target; base = 0 }
 
+-- a term that is subtracted, its target assembled at 0
 abbrev pub minus : SymTarget → SymTerm
 minus target = record { minus = true; target = target; base = 0 }
 
@@ -107,6 +135,7 @@ minus target = record { minus = true; target = target; base = 0 }
 abbrev pub constant : ℕ → Kind → List SymTerm → SymConst
 constant offset kind terms = record { item = 0; offset = offset; length = 4; kind = kind; terms = terms }
 
+-- a branch constant of four bytes for item n
 abbrev pub call_of : ℕ → ℕ → SymConst
 call_of offset n = constant offset Branch (plus (Own n) ∷ [])
 
@@ -114,6 +143,7 @@ call_of offset n = constant offset Branch (plus (Own n) ∷ [])
 abbrev pub text : List ℕ → Frag
 text bytes = record { item = 0; offset = 0; bytes = bytes }
 
+-- a module without an entry, read in this segment
 abbrev pub read : ℕ → List Item → List Frag → List SymConst → Read
 read segment items fragments constants = record {
   module_ = record { items = items; fragments = fragments; constants = constants; entry = NoEntry };

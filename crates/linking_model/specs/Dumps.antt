@@ -1,4 +1,4 @@
--- What stands in storage in the worked cases of overlay, sixteen bytes a line.
+-- What stands in storage in the worked cases of overlay, sixteen bytes a line (this project's profile).
 use Rattle.std.specs.Prelude.{ℕ, List, [], ◌∷◌}
 
 -- A and B not loaded: `$SEGTAB`, ROOT with the addresses of two entries, and `$ENTAB` with these

@@ -27,11 +27,13 @@ pub record Sight : Type 0 where
   pub segment : ℕ
   pub item : Item
 
+-- the items of module m from number n on
 abbrev pub sights_in : ℕ → ℕ → ℕ → List Item → List Sight
 sights_in m segment n [] = []
 sights_in m segment n (x ∷ xs) =
     record { of_module = m; number = n; segment = segment; item = x } ∷ sights_in m segment (n + 1) xs
 
+-- the items of the modules, of which the first is module m
 abbrev pub sights_from : ℕ → List Read → List Sight
 sights_from m [] = []
 sights_from m (r ∷ rs) = sights_in m r.segment 0 r.module_.items ++ sights_from (m + 1) rs
@@ -47,6 +49,7 @@ pub data Symbol : Type 0 where
   ByName : Name → Symbol
   Private : ℕ → ℕ → Symbol
 
+-- two symbols are the same
 abbrev pub symbol_eq : Symbol → Symbol → Bool
 symbol_eq (ByName x) (ByName y) = name_eq x y
 symbol_eq (Private m n) (Private k l) = m == k && n == l
@@ -58,15 +61,18 @@ symbol_for x Pc = Some (Private x.of_module x.number)
 symbol_for x Register = None
 symbol_for x _ = Some (ByName x.item.name)
 
+-- the symbol of an item, none for a register
 abbrev pub symbol_of : Sight → Option Symbol
 symbol_of x = symbol_for x (kind_of x.item)
 
+-- the symbol of an item of this kind, where that is SD, PC or CM
 abbrev pub section_symbol_for : Sight → ItemKind → Option Symbol
 section_symbol_for x Sd = Some (ByName x.item.name)
 section_symbol_for x Pc = Some (Private x.of_module x.number)
 section_symbol_for x Cm = Some (ByName x.item.name)
 section_symbol_for x _ = None
 
+-- the symbol of an item that is a section
 abbrev pub section_symbol : Sight → Option Symbol
 section_symbol x = section_symbol_for x (kind_of x.item)
 
@@ -76,9 +82,11 @@ section_symbols rs = firsts symbol_eq (filter_map section_symbol (sights rs))
 
 -- ---- kept
 
+-- an SD item of the name
 abbrev pub is_sd_named : Name → Sight → Bool
 is_sd_named y x = is_sd (kind_of x.item) && name_eq x.item.name y
 
+-- a CM item of the name
 abbrev pub is_area_named : Name → Sight → Bool
 is_area_named y x = is_cm (kind_of x.item) && name_eq x.item.name y
 
@@ -90,9 +98,11 @@ kept_sd rs y = find (is_sd_named y) (sights rs)
 abbrev pub areas : List Read → Name → List Sight
 areas rs y = filter (is_area_named y) (sights rs)
 
+-- item n of module m
 abbrev pub is_at : ℕ → ℕ → Sight → Bool
 is_at m n x = x.of_module == m && x.number == n
 
+-- item n of module m, if there is one
 abbrev pub sight_at : List Read → ℕ → ℕ → Option Sight
 sight_at rs m n = find (is_at m n) (sights rs)
 
@@ -109,6 +119,7 @@ kept_as rs x _ = None
 abbrev pub kept_symbol : List Read → ℕ → ℕ → Option Symbol
 kept_symbol rs m n = option_and_then (λ x. kept_as rs x (kind_of x.item)) (sight_at rs m n)
 
+-- the place of a symbol among the sections, from 0
 abbrev pub section_number : List Read → Symbol → Option ℕ
 section_number rs y = position (symbol_eq y) (section_symbols rs)
 
@@ -118,6 +129,7 @@ kept_in rs m n = option_and_then (section_number rs) (kept_symbol rs m n)
 
 -- ---- order of first appearance
 
+-- one constant stands before another, by item and offset
 abbrev pub stands_before : SymConst → SymConst → Bool
 stands_before c d = nat_lt c.item d.item || c.item == d.item && nat_lt c.offset d.offset
 
@@ -125,6 +137,7 @@ stands_before c d = nat_lt c.item d.item || c.item == d.item && nat_lt c.offset 
 abbrev pub kept_constants : List Read → ℕ → SymModule → List SymConst
 kept_constants rs m x = in_order stands_before (filter (λ c. is_some (kept_in rs m c.item)) x.constants)
 
+-- the name by which a target refers, if it does
 abbrev pub name_in : SymTarget → Option Name
 name_in (Named y) = Some y
 name_in _ = None
@@ -143,5 +156,6 @@ seen_in rs (m, r) =
 unfoldable pub appearance : List Read → List Symbol
 appearance rs = firsts symbol_eq (flat_map (seen_in rs) (enumerate_from 0 rs))
 
+-- the place of a symbol in the order of first appearance, from 0
 abbrev pub rank_of : List Read → Symbol → ℕ
 rank_of rs y = unwrap_or (position (symbol_eq y) (appearance rs)) 0

@@ -1,4 +1,5 @@
--- What any reader expects of the definitions, each stated once and kept by a function of its own.
+-- What any reader expects of the definitions, each stated once and kept by a function of its own. They follow from
+-- the definitions, and so have the sources of these: GC28-6538 and this project's profile.
 use Rattle.std.specs.Prelude.{◌≡◌, ◌≢◌, ℕ, ◌+◌, ◌<◌, ◌≤◌, Bool, true, false, List, [], ◌∷◌, reverse, length, map, filter, nat_lt, Some, None, slice_get, is_some, ◌⊎◌}
 use Rattle.le_bytes.specs.declared.record_what.EventWhat.{EventWhat}
 use Rattle.le_bytes.specs.declared.name.Name.{Name}
@@ -31,6 +32,7 @@ pub record HasParent (tree : Tree) (s : ℕ) : Type 0 where
   pub bounded : region_of tree s ≤ regions tree
   pub same_region : (parent_of tree s ≡ 1) ⊎ (region_of tree s ≡ region_of tree (parent_of tree s))
 
+-- each segment below the root has such a parent
 abbrev pub SegmentsHaveParents : Type 0
 SegmentsHaveParents = (tree : Tree) (s : ℕ) → IsTree tree → 2 ≤ s → s ≤ length tree → HasParent tree s
 
@@ -59,6 +61,7 @@ pub record LiesInSegment (P : Laid) (i : ℕ) (x : Section) : Type 0 where
   pub begins : origin P x.segment ≤ place P i
   pub ends : place P i + x.length ≤ end_of P x.segment
 
+-- each section does
 abbrev pub SectionsLieInSegments : Type 0
 SectionsLieInSegments =
     (P : Laid) (i : ℕ) (x : Section) → slice_get P.program.sections i ≡ Some x → LiesInSegment P i x

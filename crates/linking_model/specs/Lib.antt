@@ -1,3 +1,5 @@
+-- Definitions of linking: what is kept of modules, segments, places, overlay tables, linked bytes and runs. Each file
+-- says what in it follows GC28-6538 and what is this project's profile.
 pub mod Cases
 pub mod Decks
 pub mod Dumps

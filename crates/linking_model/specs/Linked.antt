@@ -45,6 +45,7 @@ scatter p areas = option_map spread (scattered areas (map (λ x. x.length) p.sec
 
 -- ---- addresses
 
+-- the offset of label i in its section
 abbrev pub offset_of_label : Program → ℕ → ℕ
 offset_of_label p i = option_map_or (λ x. x.offset) (slice_get p.labels i) 0
 
@@ -54,6 +55,7 @@ address_of p q (InSection i) = q.section i
 address_of p q (AtLabel i) = q.section (section_of_label p i) + offset_of_label p i
 address_of p q _ = 0
 
+-- the address of an entry point
 abbrev pub point_address : Placement → Point → ℕ
 point_address q x = q.section x.section + x.offset
 
@@ -68,6 +70,7 @@ abbrev pub branch_address : Laid → Placement → ℕ → Target → ℕ
 branch_address P q a (Unresolved _) = 0
 branch_address P q a y = if is_direct P.program P.tree a y then address_of P.program q y else entry_address P q a y
 
+-- the displacement of a register, 0 for any other target
 abbrev pub displacement_of : Program → Target → ℕ
 displacement_of p (OfRegister r) = slice_index (displacements 0 p.registers) r
 displacement_of p _ = 0
@@ -89,6 +92,7 @@ difference m to from = to + (m - from % m)
 abbrev pub signed_difference : ℕ → Bool → ℕ → ℕ → ℕ
 signed_difference m minus to from = if minus then difference m from to else difference m to from
 
+-- the number that text gives for a constant
 abbrev pub stored_number : Program → Constant → ℕ
 stored_number p c = big_number c.length (map (stored_byte p.texts c.section) (range_with_len c.offset c.length))
 
@@ -101,13 +105,16 @@ number_for P q c Branch = branch_address P q (segment_of_section P.program c.sec
 number_for P q c Displacement = displacement_of P.program (only_target c.terms)
 number_for P q c TotalKind = registers_end 0 P.program.registers
 
+-- a constant's number, as it stands in its bytes
 unfoldable pub number_in : Laid → Placement → Constant → ℕ
 number_in P q c = number_for P q c c.kind % 256 ^ c.length
 
+-- byte o of section i, in this constant or in none
 abbrev pub byte_of : Laid → Placement → ℕ → ℕ → Option Constant → ℕ
 byte_of P q i o None = stored_byte P.program.texts i o
 byte_of P q i o (Some c) = slice_index (big_bytes c.length (number_in P q c)) (o - c.offset)
 
+-- the constant has byte o of section i
 abbrev pub covers : ℕ → ℕ → Constant → Bool
 covers i o c = c.section == i && is_among c.offset c.length o
 
@@ -123,5 +130,6 @@ byte_with constants P q i o = byte_of P q i o (constant_at constants i o)
 unfoldable pub linked_byte : Laid → Placement → ℕ → ℕ → ℕ
 linked_byte P q i o = byte_with P.program.constants P q i o
 
+-- the bytes of section i of the linked program
 abbrev pub linked_section : Laid → Placement → ℕ → List ℕ
 linked_section P q i = map (linked_byte P q i) (range_with_len 0 (length_of_section P.program i))

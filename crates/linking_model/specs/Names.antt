@@ -1,4 +1,4 @@
--- Names in order, and the order of first appearance.
+-- Names in order, and the order of first appearance (this project's profile).
 use Rattle.std.specs.Prelude.{Bool, List, [], ◌∷◌, ◌++◌, fold, if◌then◌else◌}
 use Rattle.std.specs.List.{list_any}
 use Rattle.std.specs.Ordering.{nat_cmp, is_lt}

@@ -14,20 +14,25 @@ pub record Laid : Type 0 where
   pub tree : Tree
   pub entries : List (List Target)
 
+-- there are segments beside the root
 abbrev pub is_overlay : Tree → Bool
 is_overlay tree = nat_lt 1 (length tree)
 
+-- the targets that have an entry in the table of segment s
 abbrev pub entries_of : Laid → ℕ → List Target
 entries_of P s = option_map_or (λ x. x) (slice_get P.entries (s - 1)) []
 
+-- how many these are
 abbrev pub entry_count : Laid → ℕ → ℕ
 entry_count P s = length (entries_of P s)
 
 -- ---- what stands in a segment
 
+-- eight bytes, and four for each segment
 abbrev pub segtab_length : Tree → ℕ
 segtab_length tree = 8 + 4 * length tree
 
+-- eight bytes, twelve for each entry, and the last four
 abbrev pub entab_length : ℕ → ℕ
 entab_length entries = 12 * entries + 12
 
@@ -35,6 +40,7 @@ entab_length entries = 12 * entries + 12
 abbrev pub has_segtab : Tree → ℕ → Bool
 has_segtab tree s = is_overlay tree && s == 1
 
+-- the length of `$SEGTAB` in the segment that has it
 abbrev pub head_lengths : Tree → ℕ → List ℕ
 head_lengths tree s = if has_segtab tree s then segtab_length tree ∷ [] else []
 
@@ -50,6 +56,7 @@ section_lengths sections s = map (λ x. x.length) (filter (λ x. x.segment == s)
 abbrev pub lengths : Laid → ℕ → List ℕ
 lengths P s = head_lengths P.tree s ++ section_lengths P.program.sections s ++ table_lengths (entry_count P s)
 
+-- the length of segment s, which ends where the last that stands in it ends
 unfoldable pub size : Laid → ℕ → ℕ
 size P s = extent (lengths P s)
 
@@ -63,6 +70,7 @@ above_in_region tree s = filter (λ a. region_of tree a == region_of tree s) (dr
 unfoldable pub depth : Tree → (ℕ → ℕ) → ℕ → ℕ
 depth tree sizes s = sum_by (λ a. round8 (sizes a)) (above_in_region tree s)
 
+-- the segments of region r
 abbrev pub segments_of_region : Tree → ℕ → List ℕ
 segments_of_region tree r = filter (λ s. region_of tree s == r) (segments tree)
 
@@ -76,23 +84,29 @@ region_start tree sizes zero = 0
 region_start tree sizes (suc r) =
     let start = region_start tree sizes r in max start (round8 (greatest (ends_from tree sizes start r)))
 
+-- where segment s begins, by the sizes of all
 unfoldable pub origin_by : Tree → (ℕ → ℕ) → ℕ → ℕ
 origin_by tree sizes s = region_start tree sizes (region_of tree s) + depth tree sizes s
 
 -- ---- addresses in the module
 
+-- where segment s begins
 abbrev pub origin : Laid → ℕ → ℕ
 origin P s = origin_by P.tree (size P) s
 
+-- where segment s ends
 abbrev pub end_of : Laid → ℕ → ℕ
 end_of P s = origin P s + size P s
 
+-- the greatest end of a segment
 abbrev pub module_length : Laid → ℕ
 module_length P = greatest (map (end_of P) (segments P.tree))
 
+-- the segment of section i, 0 where there is none
 abbrev pub segment_of_section : Program → ℕ → ℕ
 segment_of_section p i = option_map_or (λ x. x.segment) (slice_get p.sections i) 0
 
+-- the length of section i, 0 where there is none
 abbrev pub length_of_section : Program → ℕ → ℕ
 length_of_section p i = option_map_or (λ x. x.length) (slice_get p.sections i) 0
 

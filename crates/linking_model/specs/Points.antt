@@ -13,6 +13,7 @@ use Rattle.linking_model.specs.Settled.{is_section_named}
 
 -- ---- registers
 
+-- the least multiple of the alignment that is not below n
 abbrev pub next_multiple : ℕ → ℕ → ℕ
 next_multiple n align = (n + (align - 1)) / align * align
 
@@ -37,10 +38,12 @@ pub record Point : Type 0 where
 abbrev pub in_root : Program → Point → Option Point
 in_root p x = if segment_of_section p x.section == 1 then Some x else None
 
+-- the first byte of the named section
 abbrev pub section_point : Program → Name → Option Point
 section_point p name =
     option_map (λ i. record { section = i; offset = 0 }) (position (is_section_named name) p.sections)
 
+-- the place of the label
 abbrev pub label_point : Program → Name → Option Point
 label_point p name =
     option_map (λ x. record { section = x.section; offset = x.offset }) (find (λ x. name_eq x.name name) p.labels)
@@ -49,6 +52,7 @@ label_point p name =
 abbrev pub point_of : Program → Name → Option Point
 point_of p name = option_and_then (in_root p) (option_or (section_point p name) (label_point p name))
 
+-- the place of an entry that a module gives, where that is in the root
 abbrev pub start_point : Program → StartAt → Option Point
 start_point p (StartsAt i offset) = in_root p (record { section = i; offset = offset })
 start_point p (StartsAtName name) = point_of p name

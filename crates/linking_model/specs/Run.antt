@@ -32,6 +32,7 @@ pub record Piece : Type 0 where
   pub count : ℕ
   pub byte : ℕ → ℕ
 
+-- the piece has a byte at the address
 abbrev pub has_address : ℕ → Piece → Bool
 has_address a piece = is_among piece.at piece.count a
 
@@ -39,23 +40,29 @@ has_address a piece = is_among piece.at piece.count a
 abbrev pub byte_in : List Piece → ℕ → ℕ
 byte_in pieces a = option_map_or (λ piece. piece.byte (a - piece.at)) (find (has_address a) pieces) 0
 
+-- the storage with the bytes of the piece in their places
 abbrev pub with_piece : Storage → Piece → Storage
 with_piece M piece = λ a. if has_address a piece then piece.byte (a - piece.at) else M a
 
+-- the bytes of a list from an address on
 abbrev pub list_piece : ℕ → List ℕ → Piece
 list_piece at bytes = record { at = at; count = length bytes; byte = slice_index bytes }
 
 -- ---- linked segments
 
+-- `$SEGTAB`, with segment 1 alone resident
 abbrev pub segtab_piece : Laid → Placement → Piece
 segtab_piece P q = list_piece q.segtab (segtab_bytes P.tree (1 ∷ []))
 
+-- section i, linked
 abbrev pub section_piece : Laid → Placement → ℕ → Piece
 section_piece P q i = record { at = q.section i; count = length_of_section P.program i; byte = linked_byte P q i }
 
+-- the `$ENTAB` of segment s
 abbrev pub entab_piece : Laid → Placement → ℕ → Piece
 entab_piece P q s = list_piece (q.entab s) (entab_bytes P (address_of P.program q) s)
 
+-- the numbers of the sections of segment s
 abbrev pub sections_in : Program → ℕ → List ℕ
 sections_in p s = filter (λ i. segment_of_section p i == s) (range_with_len 0 (length p.sections))
 
@@ -75,6 +82,7 @@ segment_piece P q s =
 
 -- ---- states and events
 
+-- the resident segments, ascending, and what stands in storage
 pub record State : Type 0 where
   pub resident : List ℕ
   pub storage : Storage
@@ -86,6 +94,7 @@ pub data Event : Type 0 where
   Where : Event
   Dump : Name → Event
 
+-- an address that a call reached, a store that was done, the resident segments, or an address with the bytes there
 pub data Outcome : Type 0 where
   Reached : ℕ → Outcome
   Stored : Outcome
@@ -113,12 +122,14 @@ abbrev pub with_status : Tree → ℕ → List ℕ → Storage → Storage
 with_status tree segtab resident M =
     fold (λ m s. with_piece m (list_piece (segtab + 6 + 4 * s) (status_of resident s ∷ []))) M (segments tree)
 
+-- the state after a call into segment t, which was not resident
 abbrev pub call_into : Laid → Placement → State → ℕ → State
 call_into P q S t =
     let resident = after_call P.tree S.resident t in
     let new = filter (λ s. not (is_in s S.resident)) resident in
     record { resident = resident; storage = with_status P.tree q.segtab resident (brought P q new S.storage) }
 
+-- unresolved name i
 abbrev pub unresolved_name : Program → ℕ → Name
 unresolved_name p i = option_map_or (λ x. x.name) (slice_get p.unresolved i) (record { 0 = blank_bytes })
 
@@ -129,9 +140,11 @@ reached P q S y =
     let t = segment_of P.program y in
     Goes (Reached (address_of P.program q y)) (if is_in t S.resident then S else call_into P q S t)
 
+-- a branch constant of 3 or 4 bytes at offset o of section i
 abbrev pub is_vcon_at : ℕ → ℕ → Constant → Bool
 is_vcon_at i o c = is_branch c.kind && c.section == i && c.offset == o && nat_le 3 c.length
 
+-- a call by this constant, which is refused where there is none
 abbrev pub called : Laid → Placement → State → Option Constant → Answer
 called P q S None = Stops NotVcon
 called P q S (Some c) = reached P q S (only_target c.terms)
@@ -142,21 +155,25 @@ called P q S (Some c) = reached P q S (only_target c.terms)
 abbrev pub is_touched : Program → ℕ → ℕ → ℕ → Bool
 is_touched p i o n = list_any (λ k. is_some (constant_at p.constants i k)) (range_with_len o n)
 
+-- a store of bytes from offset o of section i on
 abbrev pub stored : Laid → Placement → State → ℕ → ℕ → List ℕ → Answer
 stored P q S i o bytes =
     if nat_lt (length_of_section P.program i) (o + length bytes) then Stops OutOfSection
     else (if is_touched P.program i o (length bytes) then Stops TouchesConstant
     else Goes Stored (record S { storage = with_piece S.storage (list_piece (q.section i + o) bytes) }))
 
+-- a dump of section i
 abbrev pub dumped : Laid → Placement → State → ℕ → Answer
 dumped P q S i =
     Goes (Dumped (q.section i) (map S.storage (range_with_len (q.section i) (length_of_section P.program i)))) S
 
 -- ---- runs
 
+-- the number of the section of the name
 abbrev pub section_named : Program → Name → Option ℕ
 section_named p name = position (is_section_named name) p.sections
 
+-- what is done at section i, which has to be there and resident
 abbrev pub if_resident : Laid → State → (ℕ → Answer) → Option ℕ → Answer
 if_resident P S done None = Stops NoSuchPlace
 if_resident P S done (Some i) =
@@ -166,6 +183,7 @@ if_resident P S done (Some i) =
 abbrev pub at_section : Laid → State → Name → (ℕ → Answer) → Answer
 at_section P S name done = if_resident P S done (section_named P.program name)
 
+-- what one event gives
 unfoldable pub step : Laid → Placement → State → Event → Answer
 step P q S (Call name o) = at_section P S name (λ i. called P q S (find (is_vcon_at i o) P.program.constants))
 step P q S (Store name o bytes) = at_section P S name (λ i. stored P q S i o bytes)
@@ -187,9 +205,11 @@ abbrev pub and_then : State → Answer → (State → Run) → Run
 and_then S (Stops why) rest = record { outcomes = []; refusal = Some why; state = S }
 and_then S (Goes outcome S') rest = let r = rest S' in record r { outcomes = outcome ∷ r.outcomes }
 
+-- a run from a state on
 unfoldable pub run_from : Laid → Placement → State → List Event → Run
 run_from P q S [] = record { outcomes = []; refusal = None; state = S }
 run_from P q S (e ∷ events) = and_then S (step P q S e) (λ S'. run_from P q S' events)
 
+-- a run from the start
 abbrev pub run : Laid → Placement → List Event → Run
 run P q events = run_from P q (start P q) events

@@ -27,10 +27,12 @@ settled_segment tree inserts x Sd = inserted_or inserts x.name x.segment
 settled_segment tree inserts x Pc = x.segment
 settled_segment tree inserts x Cm = inserted_or inserts x.name (lowest_common tree x.users)
 
+-- the program with the segments of its sections
 unfoldable pub settled : Tree → Inserts → Program → Program
 settled tree inserts p =
     record p { sections = map (λ (x : Section). record x { segment = settled_segment tree inserts x x.kind }) p.sections }
 
+-- a section of the name that is no private one
 abbrev pub is_section_named : Name → Section → Bool
 is_section_named name x = not (is_private x.kind) && name_eq x.name name
 
@@ -39,5 +41,6 @@ abbrev pub unknown_insert : Program → Inserts → Option Name
 unknown_insert p inserts =
     option_map (λ x. x.0) (find (λ x. not (list_any (is_section_named x.0) p.sections)) inserts)
 
+-- some section stands in the root
 abbrev pub has_root_section : Program → Bool
 has_root_section p = list_any (λ x. x.segment == 1) p.sections

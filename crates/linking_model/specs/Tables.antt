@@ -19,10 +19,12 @@ use Rattle.linking_model.specs.Names.{name_below, in_order}
 use Rattle.linking_model.specs.Tree.{Tree, path, segments, is_on_path, is_below, is_away}
 use Rattle.linking_model.specs.Places.{Laid, segment_of_section}
 
+-- the kind is V-type
 abbrev pub is_branch : Kind → Bool
 is_branch Branch = true
 is_branch _ = false
 
+-- two targets are the same
 abbrev pub target_eq : Target → Target → Bool
 target_eq (InSection i) (InSection j) = i == j
 target_eq (AtLabel i) (AtLabel j) = i == j
@@ -31,6 +33,7 @@ target_eq (OfRegister i) (OfRegister j) = i == j
 target_eq Total Total = true
 target_eq _ _ = false
 
+-- the section of label i
 abbrev pub section_of_label : Program → ℕ → ℕ
 section_of_label p i = option_map_or (λ x. x.section) (slice_get p.labels i) 0
 
@@ -76,6 +79,7 @@ pub record Reference : Type 0 where
   pub offset : ℕ
   pub target : Target
 
+-- the target is a section or a label
 abbrev pub is_defined : Target → Bool
 is_defined (InSection i) = true
 is_defined (AtLabel i) = true
@@ -86,6 +90,7 @@ abbrev pub only_target : List Term → Target
 only_target [] = Total
 only_target (t ∷ _) = t.target
 
+-- a constant as such a reference, where it is one
 abbrev pub reference : Program → Constant → Option Reference
 reference p c =
     if is_branch c.kind && is_defined (only_target c.terms)
@@ -103,25 +108,31 @@ abbrev pub is_refused : Program → Tree → Bool → Reference → Bool
 is_refused p tree xcal x =
     is_exclusive p tree x.segment x.target && not (xcal && is_some (holder p tree x.segment x.target))
 
+-- the first reference that is refused, by segment, section and offset
 unfoldable pub refused_reference : Program → Tree → Bool → Option Reference
 refused_reference p tree xcal =
     find (is_refused p tree xcal) (in_order comes_before (filter_map (reference p) p.constants))
 
 -- ---- the entries of a table
 
+-- a section or a label with its name
 pub record NamedTarget : Type 0 where
   pub name : Name
   pub target : Target
 
+-- a section that has a name
 abbrev pub named_section : ℕ × Section → Option NamedTarget
 named_section (i, x) = if is_private x.kind then None else Some (record { name = x.name; target = InSection i })
 
+-- a section that has none
 abbrev pub private_section : ℕ × Section → Option Target
 private_section (i, x) = if is_private x.kind then Some (InSection i) else None
 
+-- a label
 abbrev pub named_label : ℕ × Label → NamedTarget
 named_label (i, x) = record { name = x.name; target = AtLabel i }
 
+-- the sections and labels that have names
 abbrev pub named_targets : Program → List NamedTarget
 named_targets p =
     filter_map named_section (enumerate_from 0 p.sections) ++ map named_label (enumerate_from 0 p.labels)
@@ -136,6 +147,7 @@ targets_in_order p =
 abbrev pub has_entry : Program → Tree → ℕ → Target → Bool
 has_entry p tree b y = option_map_or (λ h. h == b) (holder p tree b y) false
 
+-- the targets that have an entry in the table of segment b, in order
 unfoldable pub entries : Program → Tree → ℕ → List Target
 entries p tree b = filter (has_entry p tree b) (targets_in_order p)
 
@@ -148,6 +160,7 @@ pub record Crowd : Type 0 where
   pub segment : ℕ
   pub entries : ℕ
 
+-- the first of these tables that has more, where the first of them is that of segment s
 abbrev pub crowd_in : List (List Target) → ℕ → Option Crowd
 crowd_in [] s = None
 crowd_in (table ∷ tables) s =

@@ -12,13 +12,16 @@ use Rattle.linking_model.specs.Numbers.{greatest}
 abbrev pub Tree : Type 0
 Tree = List Segment
 
+-- the root has no parent and is in the first region
 abbrev pub root : Segment
 root = record { parent = 0; region = 1 }
 
+-- the parent of segment s, 0 of the root
 unfoldable pub parent_of : Tree → ℕ → ℕ
 parent_of [] s = 0
 parent_of (x ∷ older) s = if s == length older + 1 then x.parent else parent_of older s
 
+-- the region of segment s
 unfoldable pub region_of : Tree → ℕ → ℕ
 region_of [] s = 0
 region_of (x ∷ older) s = if s == length older + 1 then x.region else region_of older s
@@ -37,9 +40,11 @@ segments (x ∷ older) = segments older ++ (length older + 1) ∷ []
 unfoldable pub regions : Tree → ℕ
 regions tree = greatest (map (λ x. x.region) tree)
 
+-- the number is in the list
 abbrev pub is_in : ℕ → List ℕ → Bool
 is_in s list = list_any (λ r. r == s) list
 
+-- a is on the path of s
 abbrev pub is_on_path : Tree → ℕ → ℕ → Bool
 is_on_path tree a s = is_in a (path tree s)
 
@@ -67,6 +72,7 @@ pub record MayBegin (older : Tree) (x : Segment) : Type 0 where
   pub next : x.region ≤ regions older + 1
   pub same_region : (x.parent ≡ 1) ⊎ (x.region ≡ region_of older x.parent)
 
+-- the list begins with the root, and each later segment may begin after those before it
 abbrev pub IsTree : Tree → Type 0
 IsTree [] = ⊥
 IsTree (x ∷ []) = x ≡ root
@@ -112,6 +118,7 @@ pub data OverlayFault : Type 0 where
   TooManyRegions : ℕ → OverlayFault
   TooManySegments : ℕ → OverlayFault
 
+-- the fault of an OVERLAY statement, none where it begins a segment
 unfoldable pub overlay_fault : Overlays → Name → Bool → Option OverlayFault
 overlay_fault o symbol region =
     if region && is_some (first_of o.symbols symbol) then Some (RegionNameUsed symbol)

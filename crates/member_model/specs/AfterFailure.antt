@@ -1,5 +1,5 @@
 -- What may stand when a read failed in a call: nothing has changed, or the call was carried out down to some segment
--- of the path.
+-- of the path (this project's profile).
 use Rattle.std.specs.Prelude.{◌≡◌, ◌⊎◌, ℕ, ◌+◌, true, false, not, ◌&&◌, ◌==◌, List, filter, find, unwrap_or}
 use Rattle.std.specs.List.{list_any}
 use Rattle.linking_model.specs.Tree.{is_in}
@@ -9,6 +9,7 @@ use Rattle.member_model.specs.Fetched.{Fetched}
 use Rattle.member_model.specs.Segments.{parent_in, is_resident, path_in, note}
 use Rattle.member_model.specs.Calling.{State, call_down_to}
 
+-- at each address both have the same byte
 abbrev pub SameBytes : Storage → Storage → Type 0
 SameBytes M N = (a : ℕ) → M a ≡ N a
 
@@ -29,6 +30,7 @@ pub record IsReached (m : Fetched) (S : State) (t u : ℕ) : Type 0 where
 abbrev pub child_of : Fetched → Storage → ℕ → ℕ → ℕ
 child_of m M t u = unwrap_or (find (λ s. parent_in m M s == u) (path_in m M t)) t
 
+-- zeros on the range of segment s
 abbrev pub cleared_piece : Fetched → ℕ → Piece
 cleared_piece m s = record { at = m.at + (note m s).origin; count = (note m s).length; byte = λ _. 0 }
 

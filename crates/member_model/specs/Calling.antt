@@ -1,4 +1,5 @@
--- Calls of a member in storage, by its bytes and records: entries of the entry tables, and bringing segments in.
+-- Calls of a member in storage, by its bytes and records: entries of the entry tables, and bringing segments in. That a
+-- call brings in the path of its segment follows GC28-6538; the bytes by which it goes are this project's profile.
 use Rattle.std.specs.Prelude.{ℕ, ◌+◌, ◌-◌, ◌*◌, ◌/◌, ◌%◌, Bool, false, not, ◌&&◌, ◌==◌, nat_lt, nat_le, if◌then◌else◌, List, [], ◌∷◌, ◌++◌, map, filter, filter_map, fold, drop, reverse, find, Option, Some, None, option_map}
 use Rattle.std.specs.List.{range_with_len, enumerate_from}
 use Rattle.std.specs.Option.{option_or}
@@ -24,6 +25,7 @@ pub record State : Type 0 where
 abbrev pub number_in : Storage → ℕ → ℕ → ℕ
 number_in M a n = big_number n (map M (range_with_len a n))
 
+-- the member has the segment, and it is resident
 abbrev pub is_present : Fetched → Storage → ℕ → Bool
 is_present m M s = nat_le s (count m) && is_resident m M s
 
@@ -34,6 +36,7 @@ pub record Range : Type 0 where
   pub at : ℕ
   pub length : ℕ
 
+-- the range of the item, where it is the entry table of a resident segment
 abbrev pub table_of : Fetched → Storage → ℕ × SymbolItem → Option Range
 table_of m M (n, x) =
     if is_sd_named entry_table x && is_present m M x.segment
@@ -61,6 +64,7 @@ is_entry m M v x =
 abbrev pub facts_before : Fetched → ℕ → Facts
 facts_before m s = record m.facts { texts = []; fields = []; stage = 4; segment = s; due = None; ended = false }
 
+-- the records from the note number of segment s on
 abbrev pub records_from : Fetched → ℕ → List (List ℕ)
 records_from m s = drop ((note m s).first - 1) m.records
 
@@ -74,6 +78,7 @@ bad_from e s F n [] = if F.segment == s then Some n else None
 bad_from e s F n (b ∷ bs) =
     if F.segment == s then option_or (option_map (λ _. n) (fault e F b)) (bad_from e s (seen F b) (n + 1) bs) else None
 
+-- the first record of segment s that is refused
 abbrev pub segment_bad : Fetched → ℕ → Option ℕ
 segment_bad m s = bad_from m.entry s (facts_before m s) (note m s).first (records_from m s)
 
@@ -94,6 +99,7 @@ loaded_piece m s F =
     let from = m.at + (note m s).origin in
     record { at = from; count = (note m s).length; byte = λ o. loaded F m.addresses s (from + o) }
 
+-- the state in which segment s was brought in
 abbrev pub brought_in : Fetched → State → ℕ → State
 brought_in m S s =
     let F = segment_facts m s in
@@ -102,6 +108,7 @@ brought_in m S s =
       fields = filter (λ x. not (x.segment == s)) S.fields ++ F.fields;
     }
 
+-- the same for these segments, one after the other
 abbrev pub all_brought_in : Fetched → List ℕ → State → State
 all_brought_in m new S = fold (brought_in m) S new
 
@@ -117,5 +124,6 @@ call_down_to m S t u =
     let after = all_brought_in m (missing m S.storage u) S in
     record after { storage = with_status m (region_in m S.storage t) (path_in m S.storage u) after.storage }
 
+-- a call into segment t, of whose path all is brought in
 abbrev pub call_into : Fetched → State → ℕ → State
 call_into m S t = call_down_to m S t t

@@ -1,4 +1,5 @@
--- Worked cases: programs, the members that are written for them, and the words in which rows are said.
+-- Worked cases: programs, the members that are written for them, and the words in which rows are said (this project's
+-- profile).
 use Rattle.std.specs.Prelude.{ℕ, ◌+◌, List, [], ◌∷◌, ◌++◌, take, drop, slice_get, unwrap_or, false, Option}
 use Rattle.le_bytes.specs.declared.name.Name.{Name}
 use Rattle.le_bytes.specs.declared.record_what.EventWhat.{EventWhat}
@@ -30,6 +31,7 @@ abbrev pub own_modules : List Read
 own_modules =
     read 1 (section a_name 8 ∷ []) (text (0 ∷ 0 ∷ 0 ∷ 0 ∷ 0 ∷ 0 ∷ 0 ∷ 4 ∷ []) ∷ []) (constant 4 Address (plus (Own 0) ∷ []) ∷ []) ∷ []
 
+-- the program of this section
 abbrev pub own : Laid
 own = laid_plain own_modules
 
@@ -46,6 +48,7 @@ private_modules =
     ∷ record (constant 3 Address (plus (Own 0) ∷ [])) { item = 1; length = 3 } ∷ [])
     ∷ []
 
+-- the program with private code
 abbrev pub private : Laid
 private = laid_plain private_modules
 
@@ -63,9 +66,11 @@ temporary_name = record { 0 = 227 ∷ 197 ∷ 212 ∷ 215 ∷ 213 ∷ 193 ∷ 21
 abbrev pub plain_naming : Laid → Naming
 plain_naming P = record { name = temporary_name; point = default_point P.program; aliases = [] }
 
+-- the member of a program, without scatter items and with text in pieces of 1,024 bytes
 abbrev pub plain_member : Laid → Member
 plain_member P = member_written P false 1024 (plain_naming P)
 
+-- its directory entry
 abbrev pub plain_entry : Laid → Entry
 plain_entry P = main_entry (plain_member P)
 
@@ -79,6 +84,7 @@ plain_fetched P = fetched (plain_entry P) (plain_member P).records 0x1000
 abbrev pub loaded_bytes : Laid → ℕ → ℕ → List ℕ
 loaded_bytes P at n = dump (first_storage (fetched (plain_entry P) (plain_member P).records at)) at n
 
+-- n bytes of a program that is linked in a block
 abbrev pub linked_bytes : Laid → ℕ → ℕ → List ℕ
 linked_bytes P at n = dump (start P (block P at)).storage at n
 
@@ -99,6 +105,7 @@ pub record Seen : Type 0 where
   pub resident : List ℕ
   pub storage : List ℕ
 
+-- what is seen of a run of the member
 abbrev pub seen_of : Fetched → List Event → Seen
 seen_of m events =
     let r = byte_run m events in

@@ -1,4 +1,5 @@
--- The relocation items that the writer gives, and how they are cut into chunks of at most 240 bytes.
+-- The relocation items that the writer gives, and how they are cut into chunks of at most 240 bytes. The flag of an
+-- item follows GC28-6538; the order and the cuts are this project's profile.
 use Rattle.std.specs.Prelude.{ℕ, ◌+◌, ◌-◌, ◌*◌, Bool, ◌&&◌, ◌==◌, nat_lt, if◌then◌else◌, List, [], ◌∷◌, ◌++◌, map, filter, flat_map, None}
 use Rattle.std.specs.List.{enumerate_from}
 use Rattle.sym_mod.specs.declared.module.Kind.{Kind}
@@ -15,16 +16,19 @@ use Rattle.member_model.specs.Parts.{Part, SegmentTable, OneSection, EntryTable,
 
 -- ---- the items, none of which tells that the next has the same numbers
 
+-- bits 0 to 3 of the flag: the kind
 abbrev pub kind_flag : Kind → ℕ
 kind_flag Address = 0
 kind_flag Branch = 16
 kind_flag Displacement = 32
 kind_flag TotalKind = 48
 
+-- bit 0 of the flag: the symbol is not defined
 abbrev pub outside_flag : Target → ℕ
 outside_flag (Unresolved _) = 128
 outside_flag _ = 0
 
+-- the item of a term of a constant
 abbrev pub term_item : Laid → Constant → Term → RldItem
 term_item P c t = record {
   r = target_number P t.target;
@@ -49,6 +53,7 @@ entry_items P s =
     (λ (i, y). record { r = target_number P y; p = part_number P (EntryTable s); flag = 12; address = table_place P s + 12 + 12 * i })
     (enumerate_from 0 (entries_of P s))
 
+-- the items of a part; the segment table has none
 unfoldable pub part_items : Laid → Part → List RldItem
 part_items P SegmentTable = []
 part_items P (OneSection i) = section_items P i
@@ -56,6 +61,7 @@ part_items P (EntryTable s) = entry_items P s
 
 -- ---- chunks
 
+-- both items have the same numbers of symbol and section
 abbrev pub same_pointers : RldItem → RldItem → Bool
 same_pointers x y = x.r == y.r && x.p == y.p
 
@@ -82,5 +88,6 @@ joined [] = []
 joined (x ∷ []) = x ∷ []
 joined (x ∷ y ∷ rest) = (if same_pointers x y then record x { flag = x.flag + 1 } else x) ∷ joined (y ∷ rest)
 
+-- the bytes of a chunk, without the numbers that an item has from the one before
 abbrev pub chunk_bytes : List RldItem → List ℕ
 chunk_bytes items = rld_list_bytes None (joined items)

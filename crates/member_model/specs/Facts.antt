@@ -1,4 +1,5 @@
--- What the records of a member hold, gathered record by record. Nothing here judges them.
+-- What the records of a member hold, gathered record by record. Nothing here judges them. The records and their order
+-- are this project's profile.
 use Rattle.std.specs.Prelude.{ℕ, ◌+◌, ◌==◌, Bool, false, if◌then◌else◌, List, [], ◌∷◌, ◌++◌, map, fold, length, Option, Some, None}
 use Rattle.load_recs.specs.Items.{symbols_of, scatters_of, translations_of, notes_of}
 use Rattle.load_recs.specs.Relocations.{rlds_of}
@@ -22,6 +23,7 @@ pub record Field : Type 0 where
   pub segment : ℕ
   pub item : RldItem
 
+-- what has come so far: items of each kind, text and relocation items, what comes next, and what has ended
 pub record Facts : Type 0 where
   pub symbols : List SymbolItem
   -- how many scatter and translation items came
@@ -39,9 +41,11 @@ pub record Facts : Type 0 where
   -- the module has ended
   pub ended : Bool
 
+-- neither a segment nor the module ends
 abbrev pub nothing_ends : Ends
 nothing_ends = record { segment = false; «module» = false }
 
+-- before the first record
 abbrev pub no_facts : Facts
 no_facts = record {
   symbols = [];
@@ -65,13 +69,16 @@ stage_of (TranslationRecord first items) = 2
 stage_of (NoteRecord first items) = 3
 stage_of _ = 4
 
+-- the facts after the end of a record's contents: where a segment ends, the next goes on
 abbrev pub ended_by : Ends → Facts → Facts
 ended_by ends F = if ends.segment then record F { segment = F.segment + 1; ended = ends.module } else F
 
+-- the facts with these relocation items of the segment
 abbrev pub with_fields : List RldItem → Facts → Facts
 with_fields items F =
     record F { fields = F.fields ++ map (λ x. record { segment = F.segment; item = x }) items; stage = 4 }
 
+-- the facts with the contents of a record, whatever stood before it
 abbrev pub with_contents : Facts → Record → Facts
 with_contents F (SymbolRecord first items) = record F { symbols = F.symbols ++ symbols_of items; stage = 0 }
 with_contents F (ScatterRecord first items) = record F { scattered = F.scattered + length (scatters_of items); stage = 1 }
@@ -97,6 +104,7 @@ with_record F (Some text) bytes =
 unfoldable pub seen : Facts → List ℕ → Facts
 seen F bytes = with_record F F.due bytes
 
+-- the facts of a list of records
 unfoldable pub facts : List (List ℕ) → Facts
 facts records = fold seen no_facts records
 

@@ -1,5 +1,5 @@
 -- What may be wrong with a record of a member beside what its own bytes say: where it stands, and what its items
--- refer to. Bytes are judged by `own_fault` of the record format.
+-- refer to (this project's profile). Bytes are judged by `own_fault` of the record format.
 use Rattle.std.specs.Prelude.{ℕ, ◌+◌, Bool, true, false, not, ◌&&◌, ◌||◌, ◌==◌, nat_lt, nat_le, if◌then◌else◌, List, [], ◌∷◌, ◌++◌, map, fold, length, take, drop, count_by, Option, Some, None, option_map, option_and_then, is_some}
 use Rattle.std.specs.List.{list_any, enumerate_from}
 use Rattle.std.specs.Option.{option_or, option_map_or}
@@ -26,6 +26,7 @@ abbrev pub first_some : {A : Type 0} → List (Option A) → Option A
 first_some [] = None
 first_some (x ∷ xs) = option_or x (first_some xs)
 
+-- this fault, where something is bad
 abbrev pub when : Bool → RecWhat → Option RecWhat
 when bad what = if bad then Some what else None
 
@@ -42,6 +43,7 @@ is_asked e _ = true
 abbrev pub last_end : List SymbolItem → ℕ → ℕ
 last_end symbols s = fold (λ end x. if is_section x && x.segment == s then end_of x else end) 0 symbols
 
+-- the section ends after the module, is in no segment of the member, or begins before the last of its segment ended
 abbrev pub is_section_outside : Entry → List SymbolItem → SymbolItem → Bool
 is_section_outside e before x =
     nat_lt e.length (end_of x) || x.segment == 0 || not (is_overlay_member e) && not (x.segment == 1)
@@ -54,10 +56,12 @@ label_fault x (Some owner) =
     if not (is_text_kind owner.kind) then Some BadEsdid
     else when (nat_lt x.address owner.address || nat_lt (end_of owner) x.address) SectionOutside
 
+-- the fault of a symbol item after those before it
 abbrev pub symbol_fault : Entry → List SymbolItem → SymbolItem → SymbolKind → Option RecWhat
 symbol_fault e before x Lr = label_fault x (symbol_at before x.length)
 symbol_fault e before x kind = when (is_section_kind kind && is_section_outside e before x) SectionOutside
 
+-- the first fault of these symbol items after those before them
 abbrev pub symbols_fault : Entry → List SymbolItem → List SymbolItem → Option RecWhat
 symbols_fault e before [] = None
 symbols_fault e before (x ∷ xs) =
@@ -73,6 +77,7 @@ translations symbols = map (λ (n, x). section_rank symbols (section_of symbols 
 abbrev pub is_next : List ℕ → ℕ → List ℕ → Bool
 is_next wanted k items = bytes_eq items (take (length items) (drop k wanted))
 
+-- some section has no scatter item yet
 abbrev pub lacks_scatter : Facts → Bool
 lacks_scatter F = nat_lt F.scattered (count_by is_section F.symbols)
 
@@ -91,6 +96,7 @@ text_section F n =
 abbrev pub lies_in : Option SymbolItem → ℕ → ℕ → Bool
 lies_in section a n = option_map_or (λ x. nat_le x.address a && nat_le (a + n) (end_of x)) section false
 
+-- text lies in its section
 abbrev pub text_fault : Facts → TextHead → Option RecWhat
 text_fault F text = when (not (lies_in (text_section F text.section) text.address text.length)) TextOutside
 
@@ -106,9 +112,11 @@ shares_wrongly x y =
     y.p == x.p && nat_lt x.address (y.address + field_length y) && nat_lt y.address (x.address + field_length x)
     && not (x.address == y.address && field_length x == field_length y && field_kind x == 0 && field_kind y == 0)
 
+-- one of the two holds alone
 abbrev pub differ : Bool → Bool → Bool
 differ a b = if a then not b else b
 
+-- the fault of a relocation item after those before it
 abbrev pub field_fault : Facts → List RldItem → RldItem → Option RecWhat
 field_fault F before x =
     let section = text_section F x.p in let symbol = symbol_at F.symbols x.r in
@@ -118,6 +126,7 @@ field_fault F before x =
     ∷ when (not (lies_in section x.address (field_length x))) ConstantOutside
     ∷ when (list_any (shares_wrongly x) before) ConstantsOverlap ∷ [])
 
+-- the first fault of these relocation items after those before them
 abbrev pub fields_fault : Facts → List RldItem → List RldItem → Option RecWhat
 fields_fault F before [] = None
 fields_fault F before (x ∷ xs) = option_or (field_fault F before x) (fields_fault F (before ++ x ∷ []) xs)
@@ -146,6 +155,7 @@ segment_fault e F ends text items =
 
 -- ---- one record
 
+-- the fault of a record of each kind, in the facts before it
 abbrev pub kind_fault : Entry → Facts → Record → Option RecWhat
 kind_fault e F (SymbolRecord first items) =
     option_or (when (not (first == length F.symbols + 1)) BadEsdid) (symbols_fault e F.symbols (symbols_of items))
@@ -166,6 +176,7 @@ abbrev pub place_fault : Entry → Facts → Record → Option RecWhat
 place_fault e F x =
     option_or (when (F.ended || nat_lt (stage_of x) F.stage || not (is_asked e x)) BadOrder) (kind_fault e F x)
 
+-- the first fault of the next record, which has to be the text where one is due
 abbrev pub fault_with : Entry → Facts → Option TextHead → List ℕ → Option RecWhat
 fault_with e F None bytes = option_or (option_map what_of (own_fault bytes)) (place_fault e F (contents bytes))
 fault_with e F (Some text) bytes = when (not (length bytes == text.length)) BadLength

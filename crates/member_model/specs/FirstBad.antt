@@ -1,4 +1,4 @@
--- The first record of a member that has a fault, with the first of its faults.
+-- The first record of a member that has a fault, with the first of its faults (this project's profile).
 use Rattle.std.specs.Prelude.{◌≡◌, ℕ, ◌+◌, Bool, false, not, ◌&&◌, ◌==◌, nat_lt, nat_le, if◌then◌else◌, List, [], ◌∷◌, length, drop, take_while, Option, None, option_map}
 use Rattle.std.specs.Option.{option_or, option_map_or}
 use Rattle.le_bytes.specs.declared.record_what.RecWhat.{RecWhat}
@@ -15,6 +15,7 @@ use Rattle.member_model.specs.Faults.{first_some, when, fault}
 abbrev pub Fault : Type 0
 Fault = ℕ × RecWhat
 
+-- the fault at record n
 abbrev pub at : ℕ → RecWhat → Fault
 at n what = (n, what)
 
@@ -27,10 +28,12 @@ faults_from e F n (b ∷ bs) = option_or (option_map (at n) (fault e F b)) (faul
 abbrev pub is_entry_section : Entry → SymbolItem → Bool
 is_entry_section e x = is_section x && x.segment == 1 && nat_le x.address e.entry && nat_le e.entry (end_of x)
 
+-- the fault of the entry point
 abbrev pub entry_fault : Entry → Facts → Option RecWhat
 entry_fault e F =
     when (not (option_map_or (is_entry_section e) (symbol_at F.symbols e.entry_section) false)) BadEntryPoint
 
+-- the record begins as a symbol record does
 abbrev pub begins_with_symbols : List ℕ → Bool
 begins_with_symbols [] = false
 begins_with_symbols (identifier ∷ _) = identifier == 32
@@ -56,9 +59,11 @@ first_bad_of e records is_whole =
     ∷ faults_from e (facts first) (length first + 1) (drop (length first) records)
     ∷ option_map (at (length records + 1)) (when (not is_whole) NoEnd) ∷ [])
 
+-- the first fault of a member, none of a good one
 unfoldable pub first_bad : Entry → List (List ℕ) → Option Fault
 first_bad e records = first_bad_of e records (facts records).ended
 
+-- the member has no fault
 abbrev pub IsGood : Entry → List (List ℕ) → Type 0
 IsGood e records = first_bad e records ≡ None
 

@@ -1,4 +1,4 @@
--- Laws, each the contract of a function.
+-- Laws, each the contract of a function (this project's profile).
 use Rattle.std.specs.Prelude.{◌≡◌, ℕ, ◌+◌, ◌≤◌, List, [], ◌∷◌, ◌++◌, fold, length, Some, None, option_map}
 use Rattle.std.specs.Option.{option_or}
 use Rattle.le_bytes.specs.declared.record_what.EventWhat.{EventWhat}

@@ -1,3 +1,6 @@
+-- Definitions of load modules over their records and directory data: good members, storage, calls, written members,
+-- and what it means to stand for a program. Each file says what in it follows GC28-6538 and what is this project's
+-- profile.
 pub mod AfterFailure
 pub mod ByteRun
 pub mod Calling

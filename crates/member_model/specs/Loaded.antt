@@ -1,4 +1,5 @@
--- The storage of a segment of a member: its text, and its address constants moved with what they refer to.
+-- The storage of a segment of a member: its text, and its address constants moved with what they refer to. Which
+-- constants move follows GC28-6538; the records that tell of them are this project's profile.
 use Rattle.std.specs.Prelude.{ℕ, ◌+◌, ◌-◌, ◌%◌, ◌^◌, Bool, not, ◌&&◌, ◌==◌, if◌then◌else◌, List, map, filter, fold, sum_by, find, slice_index, Option, Some, None}
 use Rattle.std.specs.List.{range_with_len}
 use Rattle.byteorder.specs.Endian.{big_number, big_bytes}
@@ -39,15 +40,19 @@ text_storage F q s =
 abbrev pub is_shifted : List SymbolItem → RldItem → Bool
 is_shifted symbols x = is_address_kind x && not (is_outside (symbol_at symbols x.r))
 
+-- the relocation items of segment s
 abbrev pub items_in : Facts → ℕ → List RldItem
 items_in F s = map (λ x. x.item) (filter (λ x. x.segment == s) F.fields)
 
+-- those of them that add a shift
 abbrev pub shifts_of : Facts → ℕ → List RldItem
 shifts_of F s = filter (is_shifted F.symbols) (items_in F s)
 
+-- where the field of the item stands
 abbrev pub field_place : Facts → Addresses → RldItem → ℕ
 field_place F q x = moved F.symbols q x.p x.address
 
+-- the field has a byte at address a
 abbrev pub covers : Facts → Addresses → ℕ → RldItem → Bool
 covers F q a x = is_among (field_place F q x) (field_length x) a
 
@@ -64,6 +69,7 @@ shifted F q items M x =
     (big_number (field_length x) (map M (range_with_len (field_place F q x) (field_length x)))
     + sum_by (shift F q m) (filter (same_field x) items)) % m
 
+-- the byte at address a, in the field of this item or in none
 abbrev pub loaded_byte : Facts → Addresses → List RldItem → Storage → ℕ → Option RldItem → ℕ
 loaded_byte F q items M a None = M a
 loaded_byte F q items M a (Some x) =

@@ -1,4 +1,5 @@
--- Text in pieces, with the chunks of relocation items that follow each, as the records of a segment.
+-- Text in pieces, with the chunks of relocation items that follow each, as the records of a segment (this project's
+-- profile).
 use Rattle.std.specs.Prelude.{ℕ, ◌+◌, ◌-◌, ◌*◌, Bool, true, ◌==◌, if◌then◌else◌, List, [], ◌∷◌, ◌++◌, map, filter, length, take, slice_get, unwrap_or}
 use Rattle.std.specs.List.{enumerate_from}
 use Rattle.load_recs.specs.Records.{Record, ControlRecord, RldRecord, ControlRldRecord, TextRecord}
@@ -39,6 +40,7 @@ pieces n section address items bytes = map (piece_of section address items n) (e
 
 -- ---- from pieces to records
 
+-- what a control record tells of the piece
 abbrev pub text_head : Piece → TextHead
 text_head x = record { address = x.address; length = length x.bytes; section = x.section }
 

@@ -23,6 +23,7 @@ is_origin size at = at % 8 == 0 && nat_le (at + size) 16777215
 abbrev pub may_scatter : Entry → Bool
 may_scatter e = is_scatter_member e && not (is_overlay_member e)
 
+-- the sections among the items
 abbrev pub sections_of : List SymbolItem → List SymbolItem
 sections_of symbols = filter is_section symbols
 

@@ -1,5 +1,6 @@
 -- The symbolic module of a member. Its tables of overlay go, as an edit lets sections go: with their text, their
--- constants and their labels, and what refers to these refers to a name.
+-- constants and their labels, and what refers to these refers to a name. That a load module may be linked again follows
+-- GC28-6538; what is kept of one is this project's profile.
 use Rattle.std.specs.Prelude.{ℕ, ◌+◌, ◌-◌, Bool, true, false, not, ◌==◌, if◌then◌else◌, List, map, filter, length, take, count_by, Option, Some}
 use Rattle.std.specs.Option.{option_map_or}
 use Rattle.le_bytes.specs.Names.{blank_bytes, is_blank}
@@ -27,6 +28,7 @@ use Rattle.member_model.specs.Facts.{Facts, Text, facts}
 
 -- ---- what goes
 
+-- an item of this kind is left out
 abbrev pub is_gone_as : List SymbolItem → SymbolItem → SymbolKind → Bool
 is_gone_as symbols x Lr = option_map_or is_table (symbol_at symbols x.length) false
 is_gone_as symbols x Null = true
@@ -36,6 +38,7 @@ is_gone_as symbols x _ = is_table x
 abbrev pub is_gone : List SymbolItem → SymbolItem → Bool
 is_gone symbols x = is_gone_as symbols x x.kind
 
+-- item n is not left out
 abbrev pub is_kept_at : List SymbolItem → ℕ → Bool
 is_kept_at symbols n = option_map_or (λ x. not (is_gone symbols x)) (symbol_at symbols n) false
 
@@ -45,9 +48,11 @@ new_number symbols n = count_by (λ x. not (is_gone symbols x)) (take (n - 1) sy
 
 -- ---- items
 
+-- an item that is neither a label nor a register
 abbrev pub plain_item : Name → ItemKind → ℕ → ℕ → Item
 plain_item name kind base length = record { name = name; kind = kind; base = base; length = length; owner = 0; align = 0 }
 
+-- a section without a name
 abbrev pub private_item : SymbolItem → Item
 private_item x = plain_item (record { 0 = blank_bytes }) item.Pc x.address x.length
 
@@ -61,11 +66,13 @@ item_as symbols x Pr = record (plain_item x.name item.Register 0 x.length) { ali
 item_as symbols x Wx = plain_item x.name item.Wx 0 0
 item_as symbols x _ = plain_item x.name item.Er 0 0
 
+-- the items of the module
 abbrev pub items_of : List SymbolItem → List Item
 items_of symbols = map (λ x. item_as symbols x x.kind) (filter (λ x. not (is_gone symbols x)) symbols)
 
 -- ---- text
 
+-- a text record as text of its section
 abbrev pub fragment_of : Facts → Text → Frag
 fragment_of F t = record {
   item = new_number F.symbols t.section;
@@ -73,11 +80,13 @@ fragment_of F t = record {
   bytes = t.bytes;
 }
 
+-- the text of the module, in the order of its records
 abbrev pub fragments_of : Facts → List Frag
 fragments_of F = map (fragment_of F) (filter (λ t. is_kept_at F.symbols t.section) F.texts)
 
 -- ---- constants
 
+-- the kind of a constant by the kind of its items
 abbrev pub kind_of_field : ℕ → Kind
 kind_of_field n = if n == 0 then Address else (if n == 1 then Branch else (if n == 2 then Displacement else TotalKind))
 
@@ -88,12 +97,14 @@ reference symbols x y =
     else (if is_gone symbols y then record { minus = is_minus x; target = Named y.name; base = y.address }
     else record { minus = is_minus x; target = Own (new_number symbols x.r); base = y.address })
 
+-- what an item of this kind adds, with this symbol
 abbrev pub term_for : List SymbolItem → RldItem → Kind → Option SymbolItem → SymTerm
 term_for symbols x Displacement (Some y) = record { minus = false; target = InRegister y.name; base = 0 }
 term_for symbols x Address (Some y) = reference symbols x y
 term_for symbols x Branch (Some y) = reference symbols x y
 term_for symbols x _ _ = record { minus = false; target = OfAll; base = 0 }
 
+-- what an item adds
 abbrev pub term_of : List SymbolItem → RldItem → SymTerm
 term_of symbols x = term_for symbols x (kind_of_field (field_kind x)) (symbol_at symbols x.r)
 
@@ -107,6 +118,7 @@ constant_of F items x = record {
   terms = map (term_of F.symbols) (filter (same_field x) items);
 }
 
+-- the relocation items whose sections are not left out
 abbrev pub kept_items : Facts → List RldItem
 kept_items F = filter (λ x. is_kept_at F.symbols x.p) (map (λ x. x.item) F.fields)
 
@@ -116,11 +128,13 @@ constants_of F = map (constant_of F (kept_items F)) (firsts same_field (kept_ite
 
 -- ---- the module
 
+-- the entry of the directory, where its section is not left out
 abbrev pub entry_of : Facts → Entry → SymEntry
 entry_of F e =
     if is_kept_at F.symbols e.entry_section
     then At (new_number F.symbols e.entry_section) (e.entry - address_in_module F.symbols e.entry_section) else NoEntry
 
+-- the symbolic module of a member
 unfoldable pub module_of : Entry → List (List ℕ) → SymModule
 module_of e records =
     let F = facts records in

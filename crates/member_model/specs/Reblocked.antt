@@ -1,5 +1,6 @@
 -- The records of a member with its text in pieces of another length. Symbol, scatter and translation items stay as
--- they were, byte by byte, and so do the first numbers of records; notes get the new record numbers.
+-- they were, byte by byte, and so do the first numbers of records; notes get the new record numbers (this project's
+-- profile).
 use Rattle.std.specs.Prelude.{ℕ, ◌+◌, ◌-◌, ◌%◌, Bool, true, false, not, ◌&&◌, ◌==◌, if◌then◌else◌, List, [], ◌∷◌, ◌++◌, map, filter, flat_map, length, take, drop, take_while}
 use Rattle.std.specs.List.{range_with_len, enumerate_from}
 use Rattle.pds_lib.specs.declared.entry.Entry.{Entry}
@@ -32,11 +33,13 @@ section_items_again F s k = by_address (map plain (filter (λ x. x.p == k) (item
 abbrev pub section_text : Facts → ℕ → SymbolItem → List ℕ
 section_text F s x = map (text_storage F (in_block F.symbols 0) s) (range_with_len x.address x.length)
 
+-- the pieces of section k, where it has text and is in segment s
 abbrev pub section_pieces : Facts → ℕ → ℕ → ℕ × SymbolItem → List Piece
 section_pieces F n s (k, x) =
     if is_text_kind x.kind && x.segment == s
     then pieces n k x.address (section_items_again F s k) (section_text F s x) else []
 
+-- the records of segment s of so many, in pieces of n bytes
 abbrev pub segment_again : Facts → ℕ → ℕ → ℕ → List Record
 segment_again F n count s =
     records_or_empty (ends_at count s) (flat_map (section_pieces F n s) (enumerate_from 1 F.symbols))
@@ -60,10 +63,12 @@ note_records_again (_ ∷ rest) notes = note_records_again rest notes
 
 -- ---- the member
 
+-- a note record
 abbrev pub is_note : Record → Bool
 is_note (NoteRecord first items) = true
 is_note _ = false
 
+-- a record of no segment
 abbrev pub is_head : Record → Bool
 is_head (SymbolRecord first items) = true
 is_head (ScatterRecord first items) = true
@@ -83,5 +88,6 @@ reblocked e records n =
     let segs = map (segment_again F n count) (range_with_len 1 count) in
     first ++ note_records_again notes (notes_again (length first + length notes + 1) segs F.notes) ++ together segs
 
+-- the bytes of these records
 abbrev pub reblocked_bytes : Entry → List (List ℕ) → ℕ → List (List ℕ)
 reblocked_bytes e records n = map rec_bytes (reblocked e records n)

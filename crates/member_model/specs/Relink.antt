@@ -1,4 +1,5 @@
--- The statements that link a member again.
+-- The statements that link a member again. The statements are those of GC28-6538, and which of them a member needs is
+-- this project's profile.
 use Rattle.std.specs.Prelude.{ℕ, Bool, false, not, ◌&&◌, ◌==◌, nat_lt, if◌then◌else◌, List, [], ◌∷◌, ◌++◌, map, filter, flat_map, take_while}
 use Rattle.std.specs.List.{list_any}
 use Rattle.std.specs.Option.{option_map_or}
@@ -45,11 +46,13 @@ overlay_statement parent region s =
     then OverlayRegion (region s) (not (list_any (λ r. region r == region s) (earlier s)))
     else OverlayBelow (parent s)
 
+-- the statements of segment s: OVERLAY, and INSERT of each of its sections
 abbrev pub segment_statements : Fetched → Storage → ℕ → List Statement
 segment_statements m M s =
     overlay_statement (parent_in m M) (region_in m M) s
     ∷ map (λ x. Insert x.name) (filter (is_inserted s) m.facts.symbols)
 
+-- the statements of all segments but the root, none without overlay
 abbrev pub overlay_statements : Fetched → List Statement
 overlay_statements m =
     if is_overlay_member m.entry then flat_map (segment_statements m (first_storage m)) (later_segments (count m)) else []

@@ -1,4 +1,4 @@
--- The records of the worked cases, sixteen bytes a line.
+-- The records of the worked cases, sixteen bytes a line (this project's profile).
 use Rattle.std.specs.Prelude.{ℕ, List, [], ◌∷◌}
 
 -- one section: its symbol item, what its text is, the text, and a relocation item, with which the module ends

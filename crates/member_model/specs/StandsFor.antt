@@ -1,5 +1,5 @@
 -- What it means that a member stands for a program: wherever it may be placed, it has in storage what the program has
--- there linked, and goes through all events as the program does.
+-- there linked, and goes through all events as the program does (this project's profile).
 use Rattle.std.specs.Prelude.{◌≡◌, ℕ, ◌^◌, ◌<◌, ◌≤◌, Bool, true, false, List, [], ◌∷◌, map, length, Some, None}
 use Rattle.std.specs.List.{AllByRecursion}
 use Rattle.le_bytes.specs.declared.name.Name.{Name}
@@ -24,9 +24,11 @@ use Rattle.member_model.specs.Written.{Naming, attribute}
 
 -- ---- events
 
+-- numbers from 0 to 255
 abbrev pub AreBytes : List ℕ → Type 0
 AreBytes bytes = AllByRecursion (λ b. b < 256) bytes
 
+-- eight bytes
 abbrev pub IsName : Name → Type 0
 IsName name = (length name.0 ≡ 8) × AreBytes name.0
 
@@ -65,6 +67,7 @@ abbrev pub AreAreas : ℕ → List Area → Type 0
 AreAreas from [] = from ≤ 16777215
 AreAreas from (x ∷ rest) = (from ≤ x.mark) × (x.mark < x.end) × AreAreas x.end rest
 
+-- the member stands for the program, which was linked with or without scatter items and named so
 pub record StandsFor (P : Laid) (scatter : Bool) (who : Naming) (m : Member) : Type 0 where
   pub good : AllByRecursion (λ e. IsGood e m.records) (entries_for m)
   pub name : m.name ≡ who.name

@@ -41,6 +41,7 @@ is_wrong_order parent region s =
 abbrev pub first_status : ℕ → ℕ
 first_status s = if s == 1 then 255 else 0
 
+-- the segment table is not there, or says no tree of so many segments, of which segment 1 alone is resident
 abbrev pub is_wrong_segtab : Fetched → Storage → Bool
 is_wrong_segtab m M =
     let n = count m in let parent = parent_in m M in let region = region_in m M in
@@ -63,6 +64,7 @@ is_astray x s y = is_section y && y.segment == s && (nat_lt y.address x.origin |
 abbrev pub comes_before : Fetched → Storage → ℕ → ℕ → Bool
 comes_before m M s r = r == parent_in m M s || nat_lt (region_in m M r) (region_in m M s)
 
+-- the note of segment s does not fit the records, the module, the tree or the sections
 abbrev pub is_wrong_note : Fetched → Storage → ℕ → Bool
 is_wrong_note m M s =
     let x = note m s in
@@ -73,6 +75,7 @@ is_wrong_note m M s =
 
 -- ---- the first fault
 
+-- why the member does not start, none where it starts; one without overlay always does
 unfoldable pub start_fault : Fetched → Option StartWhat
 start_fault m =
     let M = first_storage m in

@@ -1,4 +1,5 @@
--- The symbol, scatter and translation items that the writer gives, and the records that hold them.
+-- The symbol, scatter and translation items that the writer gives, and the records that hold them. The kinds of symbols
+-- follow GC28-6538; the items are this project's profile.
 use Rattle.std.specs.Prelude.{ℕ, ◌+◌, ◌-◌, ◌*◌, Bool, if◌then◌else◌, List, [], ◌∷◌, ◌++◌, map, length, replicate, slice_index}
 use Rattle.std.specs.List.{enumerate_from}
 use Rattle.byteorder.specs.Endian.{big_bytes}
@@ -19,11 +20,13 @@ use Rattle.member_model.specs.Parts.{Part, OneSection, parts, part_name, part_ki
 
 -- ---- symbol items
 
+-- the kind of the symbol item of a section
 abbrev pub symbol_kind : SecKind → SymbolKind
 symbol_kind kept.Sd = Sd
 symbol_kind kept.Pc = Pc
 symbol_kind kept.Cm = Cm
 
+-- the symbol item of a part
 abbrev pub part_symbol : Laid → Part → SymbolItem
 part_symbol P x = record {
   name = part_name P x;
@@ -33,6 +36,7 @@ part_symbol P x = record {
   length = part_length P x;
 }
 
+-- the symbol item of a label: with its section's segment, and its section's number as length
 abbrev pub label_symbol : Laid → Label → SymbolItem
 label_symbol P x = record {
   name = x.name;
@@ -42,9 +46,11 @@ label_symbol P x = record {
   length = part_number P (OneSection x.section);
 }
 
+-- the symbol item of an unresolved name
 abbrev pub unresolved_symbol : Unknown → SymbolItem
 unresolved_symbol x = record { name = x.name; kind = if x.weak then Wx else Er; address = 0; segment = 0; length = 0 }
 
+-- the symbol item of register k: with its displacement, and its alignment less one as segment
 abbrev pub register_symbol : List Register → ℕ × Register → SymbolItem
 register_symbol registers (k, x) = record {
   name = x.name;
@@ -68,6 +74,7 @@ abbrev pub head_records : (ℕ → List ℕ → Record) → ℕ → List (List �
 head_records make per items =
     map (λ (k, some). make (k * per + 1) (together some)) (enumerate_from 0 (cuts per items))
 
+-- the records of the symbol items
 abbrev pub symbol_records : Laid → List Record
 symbol_records P = head_records (λ first items. SymbolRecord first items) 15 (map symbol_bytes (symbols_written P))
 
@@ -81,6 +88,7 @@ translation_numbers P =
     map (part_number P) (parts P) ++ map (λ (x : Label). part_number P (OneSection x.section)) P.program.labels
     ++ replicate (length P.program.unresolved + length P.program.registers) 0
 
+-- the records of the scatter items and of the translation items
 abbrev pub scatter_records : Laid → List Record
 scatter_records P =
     head_records (λ first items. ScatterRecord first items) 60 (scatter_items P)

@@ -1,4 +1,5 @@
--- The symbol items of a member by their numbers, which count from 1, and its attribute.
+-- The symbol items of a member by their numbers, which count from 1, and its attribute. The kinds of symbols and the
+-- flag of a relocation item follow GC28-6538; the items are this project's profile.
 use Rattle.std.specs.Prelude.{ℕ, ◌+◌, ◌-◌, ◌/◌, ◌%◌, Bool, true, false, ◌&&◌, ◌==◌, nat_lt, if◌then◌else◌, List, map, filter, take, slice_get, count_by, Option, None}
 use Rattle.std.specs.Option.{option_map_or}
 use Rattle.le_bytes.specs.Names.{is_blank, name_eq}
@@ -13,18 +14,22 @@ use Rattle.pds_lib.specs.declared.entry.Entry.{Entry}
 
 -- ---- the attribute
 
+-- the attribute has X'20'
 abbrev pub is_overlay_member : Entry → Bool
 is_overlay_member e = e.attr / 32 % 2 == 1
 
+-- the attribute has X'04'
 abbrev pub is_scatter_member : Entry → Bool
 is_scatter_member e = e.attr / 4 % 2 == 1
 
 -- ---- kinds
 
+-- the kind is SD
 abbrev pub is_sd : SymbolKind → Bool
 is_sd Sd = true
 is_sd _ = false
 
+-- sections: SD, PC and CM
 abbrev pub is_section_kind : SymbolKind → Bool
 is_section_kind Sd = true
 is_section_kind Pc = true
@@ -49,6 +54,7 @@ is_outside_kind Er = true
 is_outside_kind Wx = true
 is_outside_kind _ = false
 
+-- pseudo-registers
 abbrev pub is_register_kind : SymbolKind → Bool
 is_register_kind Pr = true
 is_register_kind _ = false
@@ -61,15 +67,19 @@ is_referable_kind _ = true
 
 -- ---- items
 
+-- the item is a section
 abbrev pub is_section : SymbolItem → Bool
 is_section x = is_section_kind x.kind
 
+-- the address behind the section
 abbrev pub end_of : SymbolItem → ℕ
 end_of x = x.address + x.length
 
+-- item n
 abbrev pub symbol_at : List SymbolItem → ℕ → Option SymbolItem
 symbol_at symbols n = if n == 0 then None else slice_get symbols (n - 1)
 
+-- the item is a name that is not defined
 abbrev pub is_outside : Option SymbolItem → Bool
 is_outside symbol = option_map_or (λ x. is_outside_kind x.kind) symbol false
 
@@ -81,6 +91,7 @@ is_private x = is_text_kind x.kind && is_blank x.name
 abbrev pub is_sd_named : Name → SymbolItem → Bool
 is_sd_named name x = is_sd x.kind && name_eq x.name name
 
+-- a table of overlay
 abbrev pub is_table : SymbolItem → Bool
 is_table x = is_sd x.kind && is_reserved x.name
 
@@ -89,6 +100,7 @@ abbrev pub section_as : ℕ → ℕ → SymbolKind → ℕ
 section_as n owner Lr = owner
 section_as n owner _ = n
 
+-- the section of item n
 abbrev pub section_of : List SymbolItem → ℕ → ℕ
 section_of symbols n = option_map_or (λ x. section_as n x.length x.kind) (symbol_at symbols n) n
 
@@ -97,9 +109,11 @@ abbrev pub section_rank : List SymbolItem → ℕ → ℕ
 section_rank symbols n =
     if option_map_or is_section (symbol_at symbols n) false then count_by is_section (take n symbols) else 0
 
+-- the address of item n in the module
 abbrev pub address_in_module : List SymbolItem → ℕ → ℕ
 address_in_module symbols n = option_map_or (λ x. x.address) (symbol_at symbols n) 0
 
+-- the addresses of the sections in the module
 abbrev pub section_addresses : List SymbolItem → List ℕ
 section_addresses symbols = map (λ x. x.address) (filter is_section symbols)
 
@@ -109,9 +123,11 @@ section_addresses symbols = map (λ x. x.address) (filter is_section symbols)
 abbrev pub field_kind : RldItem → ℕ
 field_kind x = kind_of_flag x.flag
 
+-- bits 4 and 5 of the flag are the length less one
 abbrev pub field_length : RldItem → ℕ
 field_length x = x.flag / 4 % 4 + 1
 
+-- bit 6 of the flag: the shift is subtracted
 abbrev pub is_minus : RldItem → Bool
 is_minus x = is_minus_flag x.flag
 
@@ -123,5 +139,6 @@ is_address_kind x = nat_lt (field_kind x) 2
 abbrev pub is_marked_outside : RldItem → Bool
 is_marked_outside x = nat_lt 127 x.flag
 
+-- both items stand at one place
 abbrev pub same_field : RldItem → RldItem → Bool
 same_field x y = x.p == y.p && x.address == y.address

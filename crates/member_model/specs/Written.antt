@@ -19,6 +19,7 @@ use Rattle.member_model.specs.Pieces.{Piece, pieces, records_or_empty, ends_at}
 
 -- ---- segments
 
+-- the pieces of a section of this kind
 abbrev pub pieces_as : SecKind → List Piece → List Piece
 pieces_as Cm text = []
 pieces_as kind text = text
@@ -28,6 +29,7 @@ abbrev pub part_pieces : Laid → ℕ → Part → List Piece
 part_pieces P n x =
     pieces_as (part_kind P x) (pieces n (part_number P x) (part_place P x) (part_items P x) (part_bytes P x))
 
+-- the records of segment s, with text in pieces of n bytes
 unfoldable pub segment_records : Laid → ℕ → ℕ → List Record
 segment_records P n s = records_or_empty (ends_at (length P.tree) s) (flat_map (part_pieces P n) (parts_in P s))
 
@@ -42,6 +44,7 @@ abbrev pub note_items : Laid → ℕ → ℕ → List (List Record) → List Not
 note_items P number s [] = []
 note_items P number s (x ∷ rest) = note_item P number s ∷ note_items P (number + length x) (s + 1) rest
 
+-- a note record has up to 20 items
 abbrev pub note_record_count : Laid → ℕ
 note_record_count P = (length P.tree + 19) / 20
 
@@ -60,6 +63,7 @@ written P scatter n =
     let segs = map (segment_records P n) (segments P.tree) in
     first ++ (if is_overlay P.tree then note_records P (length first) segs else []) ++ together segs
 
+-- the bytes of these records
 abbrev pub written_bytes : Laid → Bool → ℕ → List (List ℕ)
 written_bytes P scatter n = map rec_bytes (written P scatter n)
 
@@ -69,12 +73,15 @@ pub record Naming : Type 0 where
   pub point : Point
   pub aliases : List (Name × Point)
 
+-- the address of an entry point in the module
 abbrev pub address_of_point : Laid → Point → ℕ
 address_of_point P x = place P x.section + x.offset
 
+-- the item number of its section
 abbrev pub item_of_point : Laid → Point → ℕ
 item_of_point P x = part_number P (OneSection x.section)
 
+-- an alias with its entry point
 abbrev pub alias_of : Laid → Name × Point → AliasAt
 alias_of P (name, x) = record { name = name; entry = address_of_point P x; entry_section = item_of_point P x }
 
@@ -82,6 +89,7 @@ alias_of P (name, x) = record { name = name; entry = address_of_point P x; entry
 abbrev pub attribute : Laid → Bool → ℕ
 attribute P scatter = (if is_overlay P.tree then 32 else 0) + (if scatter then 4 else 0)
 
+-- the member with its directory data, with text in pieces of n bytes
 abbrev pub member_written : Laid → Bool → ℕ → Naming → Member
 member_written P scatter n who = record {
   name = who.name;
