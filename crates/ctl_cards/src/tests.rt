@@ -73,6 +73,42 @@ fn one_name_operands_and_words(rt: HostRuntime) -> Result<(), Fail> {
     Ok(())
 }
 
+/// Whether the card with this text is read as this statement, whole.
+fn is_read_as(alloc: Global, text: &str, statement: Statement) -> bool {
+    read_statement(alloc, &[card(text)]) == Ok((statement, 1))
+}
+
+#[test]
+fn lists_have_one_item_or_several(rt: HostRuntime) -> Result<(), Fail> {
+    let alloc = rt.alloc();
+    let alias = Statement::Alias(names(alloc, &["A"])?);
+    assert!(rt; is_read_as(alloc, " ALIAS A", alias));
+    let insert = Statement::Insert(names(alloc, &["S1", "S2", "S_3"])?);
+    assert!(rt; is_read_as(alloc, " INSERT S1,S2,S_3", insert));
+
+    let mut includes = Items::new(alloc);
+    includes.push(IncludeItem {
+        dd: name("D"),
+        members: names(alloc, &["M"])?,
+    })?;
+    assert!(rt; is_read_as(alloc, "   INCLUDE   D(M)  ", Statement::Include(includes)));
+
+    let mut libraries = Items::new(alloc);
+    libraries.push(LibraryItem::From(name("L"), names(alloc, &["A", "B"])?))?;
+    assert!(rt; is_read_as(alloc, " LIBRARY L(A,B)", Statement::Library(libraries)));
+
+    let mut edits = Items::new(alloc);
+    edits.push((name("A"), Some(name("B"))))?;
+    assert!(rt; is_read_as(alloc, " REPLACE A(B)", Statement::Replace(edits)));
+
+    let mut changes = Items::new(alloc);
+    changes.push((name("A"), name("B")))?;
+    changes.push((name("B"), name("A")))?;
+    changes.push((name("C"), name("C")))?;
+    assert!(rt; is_read_as(alloc, " CHANGE A(B),B(A),C(C)", Statement::Change(changes)));
+    Ok(())
+}
+
 #[test]
 fn lists_are_read_in_order(rt: HostRuntime) -> Result<(), Fail> {
     let alloc = rt.alloc();

@@ -14,6 +14,8 @@ mod stop;
 #[cfg(test)]
 mod tests;
 mod top;
+#[cfg(test)]
+mod word_tests;
 
 pub use status::{Fault, Status};
 pub use top::linkedit;

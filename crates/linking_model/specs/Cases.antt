@@ -10,7 +10,7 @@ use Rattle.linking_model.specs.Places.{Laid}
 use Rattle.linking_model.specs.Tables.{laid_out}
 use Rattle.linking_model.specs.Linked.{block, linked_section}
 use Rattle.linking_model.specs.Run.{Storage, Event, Call, Store, Where, Dump, Outcome, run}
-use Rattle.linking_model.specs.Decks.{difference_modules, twice_modules, common_modules, register_modules, scatter_modules, fortran_modules, shared, shared_modules, crossing_modules, call_of, apart, apart_modules, root_name, a_name}
+use Rattle.linking_model.specs.Decks.{assembled_modules, entered_modules, difference_modules, twice_modules, common_modules, register_modules, scatter_modules, fortran_modules, shared, shared_modules, crossing_modules, call_of, apart, apart_modules, root_name, a_name}
 
 -- the program of the modules over the segments of the statements, with these INSERT statements
 abbrev pub laid_over : Overlays → Inserts → List Read → Laid
@@ -22,6 +22,10 @@ abbrev pub laid_plain : List Read → Laid
 laid_plain modules = laid_over plain [] modules
 
 -- ---- one segment
+
+-- the program of a section that is assembled at X'100'
+abbrev pub assembled : Laid
+assembled = laid_plain assembled_modules
 
 -- the program in which MAIN holds X minus Y
 abbrev pub difference : Laid
@@ -64,6 +68,10 @@ unheld = laid_over shared [] (crossing_modules (call_of 0 1 ∷ []))
 -- ROOT and A call C, which is in a second region
 abbrev pub regional : Laid
 regional = laid_over apart [] apart_modules
+
+-- modules with entries, one of them in segment 2
+abbrev pub entering : Laid
+entering = laid_over shared [] entered_modules
 
 -- A is called and stored into, and then B and A are called
 abbrev pub calls_and_stores : List Event

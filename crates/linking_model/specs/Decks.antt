@@ -11,7 +11,8 @@ use Rattle.sym_mod.specs.declared.module.SymConst.{SymConst}
 use Rattle.sym_mod.specs.declared.module.SymTerm.{SymTerm}
 use Rattle.sym_mod.specs.declared.module.SymTarget.{SymTarget}
 use Rattle.sym_mod.specs.declared.module.SymTarget.TheVariants.{Own, Register as NamedRegister, Total}
-use Rattle.sym_mod.specs.declared.module.SymEntry.TheVariants.{None as NoEntry}
+use Rattle.sym_mod.specs.declared.module.SymEntry.{SymEntry}
+use Rattle.sym_mod.specs.declared.module.SymEntry.TheVariants.{None as NoEntry, At, Named}
 use Rattle.linking_model.specs.Tree.{Overlays, plain, overlaid}
 use Rattle.linking_model.specs.Kept.{Read}
 
@@ -150,7 +151,19 @@ read segment items fragments constants = record {
   segment = segment;
 }
 
+-- the same module, with this entry
+abbrev pub entered : SymEntry → Read → Read
+entered entry r = record r { module_ = record r.module_ { entry = entry } }
+
 -- ---- one segment
+
+-- A of eight bytes, assembled at X'100', with a label B two bytes before its end; the last four bytes are the address
+-- of A plus 4
+abbrev pub assembled_modules : List Read
+assembled_modules =
+    read 1 (item a_name Sd 0x100 8 ∷ label_in_first b_name 0x106 ∷ []) (text (0 ∷ 0 ∷ 0 ∷ 0 ∷ 0 ∷ 0 ∷ 1 ∷ 4 ∷ []) ∷ [])
+    (constant 4 Address (record { minus = false; target = Own 0; base = 0x100 } ∷ []) ∷ [])
+    ∷ []
 
 -- MAIN holds X minus Y; X and Y come in another module, Y assembled behind X
 abbrev pub difference_modules : List Read
@@ -257,6 +270,15 @@ promoted_modules =
     read 1 (section root_name 8 ∷ []) [] []
     ∷ read 2 (section a_name 8 ∷ item c_name Cm 0 16 ∷ []) [] []
     ∷ read 3 (section b_name 8 ∷ item c_name Cm 0 24 ∷ []) [] []
+    ∷ []
+
+-- ROOT, SUB, SUB again with an entry, A in segment 2 with an entry, and X in segment 1 with label Q and an entry there
+abbrev pub entered_modules : List Read
+entered_modules =
+    read 1 (section root_name 16 ∷ []) [] [] ∷ read 1 (section sub_name 8 ∷ []) [] []
+    ∷ entered (At 0 2) (read 1 (section sub_name 8 ∷ []) [] [])
+    ∷ entered (At 0 4) (read 2 (section a_name 8 ∷ label_in_first b_name 2 ∷ []) [] [])
+    ∷ entered (Named q_name) (read 1 (section x_name 8 ∷ label_in_first q_name 4 ∷ []) [] [])
     ∷ []
 
 -- four regions

@@ -18,10 +18,11 @@ pub use laws::{
 };
 pub use merging_rows::{
     blank_common_and_weak_name, difference_of_symbols, fortran_program, registers_and_total,
-    scattered_over_two_areas, second_section_dropped, two_labels_of_one_name,
+    scattered_over_two_areas, second_section_dropped, section_assembled_elsewhere,
+    two_labels_of_one_name,
 };
 pub use overlay_rows::{
-    calls_between_regions, calls_between_segments, common_promoted, exclusive_call,
-    overlay_statements, refused_events, store_kept_by_second_call,
+    calls_between_regions, calls_between_segments, common_promoted, crowded_tables, entry_points,
+    exclusive_call, inserts_judged, overlay_statements, refused_events, store_kept_by_second_call,
 };
 pub use segment::Segment;

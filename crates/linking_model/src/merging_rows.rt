@@ -7,11 +7,19 @@ ghost use Rattle.linking_model.specs.Places.{module_length, place};
 ghost use Rattle.linking_model.specs.Points.{registers_end};
 ghost use Rattle.linking_model.specs.Scattered.{scattered};
 ghost use Rattle.linking_model.specs.Linked.{linked_section, scatter, spread};
-ghost use Rattle.linking_model.specs.Cases.{bytes_at, difference, twice, commons, registering, scattering, fortran};
+ghost use Rattle.linking_model.specs.Cases.{assembled, bytes_at, difference, twice, commons, registering, scattering, fortran};
 ghost use Rattle.linking_model.specs.Decks.{twice_modules, two_labels_modules, fortran_modules, plus, minus};
-ghost use Rattle.linking_model.specs.Decks.{blank_name, main_name, q_name, sub_name, sub2_name, w_name};
+ghost use Rattle.linking_model.specs.Decks.{b_name, blank_name, main_name, q_name, sub_name, sub2_name, w_name};
 
 use sym_mod::{Kind, SecKind, Target};
+
+/// A section that is assembled at X'100' and whose text holds X'104': at X'1000' its constant is
+/// X'1004', since the assembled address is taken off. A label stands behind its section's first
+/// byte, wherever that was assembled.
+pub fn section_assembled_elsewhere()
+    ensures bytes { bytes_at assembled 0x1000 0 ≡ 0 ∷ 0 ∷ 0 ∷ 0 ∷ 0 ∷ 0 ∷ 0x10 ∷ 4 ∷ [] }
+    ensures labels { assembled.program.labels ≡ record { name = b_name; rank = 1; section = 0; offset = 6 } ∷ [] }
+{}
 
 /// The difference of two symbols is the same at every origin: X stands at 8 and Y at 24.
 pub fn difference_of_symbols()

@@ -4,13 +4,14 @@
 ghost use Rattle.std.specs.Prelude.{◌≡◌, ◌∷◌, [], replicate, map, true, false};
 ghost use Rattle.linking_model.specs.Tree.{RegionNameUsed, TooManyRegions, overlay_fault, segments, path, parent_of, region_of};
 ghost use Rattle.linking_model.specs.Places.{module_length, origin, entries_of};
-ghost use Rattle.linking_model.specs.Points.{default_point};
-ghost use Rattle.linking_model.specs.Tables.{holder, refused_reference};
+ghost use Rattle.linking_model.specs.Points.{alias_point, default_point, entry_point};
+ghost use Rattle.linking_model.specs.Settled.{has_root_section, unknown_insert};
+ghost use Rattle.linking_model.specs.Tables.{crowded, holder, refused_reference};
 ghost use Rattle.linking_model.specs.Linked.{block, point_address};
 ghost use Rattle.linking_model.specs.Run.{Call, Store, Dump, Reached, Stored, Residents, Dumped};
-ghost use Rattle.linking_model.specs.Cases.{laid_over, sharing, crossing, unheld, regional, calls_and_stores, second_call, calls_in_turn, outcomes, refusal, storage};
-ghost use Rattle.linking_model.specs.Decks.{shared, apart, nested, promoted_modules, four_regions};
-ghost use Rattle.linking_model.specs.Decks.{a_name, b_name, c_name, x_name, root_name};
+ghost use Rattle.linking_model.specs.Cases.{entering, laid_over, sharing, crossing, unheld, regional, calls_and_stores, second_call, calls_in_turn, outcomes, refusal, storage};
+ghost use Rattle.linking_model.specs.Decks.{shared, shared_modules, apart, nested, promoted_modules, four_regions};
+ghost use Rattle.linking_model.specs.Decks.{a_name, b_name, c_name, q_name, sub_name, x_name, root_name};
 ghost use Rattle.linking_model.specs.Dumps.{shared_before, shared_after, apart_after};
 
 use le_bytes::EventWhat;
@@ -38,6 +39,15 @@ pub fn common_promoted()
         ≡ 1 ∷ 2 ∷ 3 ∷ 2 ∷ [] }
 {}
 
+/// A name in an INSERT that no section has is unknown; the first one counts. A root from which
+/// INSERT moves its only section has none.
+pub fn inserts_judged()
+    ensures all_known { unknown_insert sharing.program ((a_name, 2) ∷ (b_name, 3) ∷ []) ≡ None }
+    ensures first_unknown { unknown_insert sharing.program ((a_name, 2) ∷ (x_name, 2) ∷ (c_name, 3) ∷ []) ≡ Some x_name }
+    ensures root_has_section { has_root_section sharing.program ≡ true }
+    ensures root_is_empty { has_root_section (laid_over shared ((root_name, 2) ∷ []) shared_modules).program ≡ false }
+{}
+
 /// The root calls two segments that share storage: each call brings in its target's segment and
 /// drops the other, and what was stored is gone once its segment was dropped.
 pub fn calls_between_segments()
@@ -49,6 +59,32 @@ pub fn calls_between_segments()
         ≡ Reached 0x1050 ∷ Stored ∷ Residents (1 ∷ 2 ∷ []) ∷ Reached 0x1050 ∷ Reached 0x1050
         ∷ Dumped 0x1050 (replicate 8 0xC1) ∷ [] }
     ensures after { storage sharing calls_and_stores ≡ shared_after }
+{}
+
+/// The entry point is where ENTRY says, if that is in the root. Without ENTRY it is the first entry
+/// that a module gives and that is kept and in the root, and without any the root's first byte.
+/// An alias enters where its name is defined in the root, and else where the program does.
+pub fn entry_points()
+    ensures by_section { entry_point entering.program (Some sub_name) ≡ Some (record { section = 1; offset = 0 }) }
+    ensures by_label { entry_point entering.program (Some q_name) ≡ Some (record { section = 3; offset = 4 }) }
+    ensures not_in_root { entry_point entering.program (Some a_name) ≡ None }
+    ensures label_not_in_root { entry_point entering.program (Some b_name) ≡ None }
+    ensures not_defined { entry_point entering.program (Some c_name) ≡ None }
+    ensures first_given { entry_point entering.program None ≡ Some (record { section = 3; offset = 4 }) }
+    ensures none_given { entry_point sharing.program None ≡ Some (record { section = 0; offset = 0 }) }
+    ensures alias { alias_point entering.program (record { section = 3; offset = 4 }) sub_name
+        ≡ record { section = 1; offset = 0 } }
+    ensures other_alias { alias_point entering.program (record { section = 3; offset = 4 }) a_name
+        ≡ record { section = 3; offset = 4 } }
+{}
+
+/// A table has at most 340 entries; the first that would have more counts.
+pub fn crowded_tables()
+    ensures few { crowded sharing ≡ None }
+    ensures full { crowded (record sharing { entries = replicate 340 (Target.Section 1) ∷ [] }) ≡ None }
+    ensures crowd { crowded (record sharing {
+      entries = [] ∷ replicate 341 (Target.Section 1) ∷ replicate 400 (Target.Section 1) ∷ [];
+    }) ≡ Some (record { segment = 2; entries = 341 }) }
 {}
 
 /// A call of a segment that is resident loads nothing, so what was stored there stays.

@@ -18,4 +18,5 @@ pub use overlay_rows::{
 pub use plain_rows::{
     constants_by_bytes, damaged_records, fortran_member, one_section, one_section_read_back,
     plain_relinked, private_code, scattered_over_two_areas, text_in_pieces,
+    where_members_may_stand,
 };

@@ -1,7 +1,7 @@
 //! Worked cases of overlay members.
 #![tactic(auto, unfolding(linking_model::specs::Kept::kept_in, linking_model::specs::Kept::appearance, linking_model::specs::Linked::stored_byte, linking_model::specs::Linked::number_in, linking_model::specs::Linked::constant_at, linking_model::specs::Linked::linked_byte, linking_model::specs::Merged::definition, linking_model::specs::Merged::double_definition, linking_model::specs::Merged::unresolved, linking_model::specs::Merged::program_of, linking_model::specs::Merged::symbol_count, linking_model::specs::Places::size, linking_model::specs::Places::depth, linking_model::specs::Places::region_start, linking_model::specs::Places::origin_by, linking_model::specs::Places::place_after, linking_model::specs::Places::place, linking_model::specs::Places::table_place, linking_model::specs::Points::displacements, linking_model::specs::Points::registers_end, linking_model::specs::Points::entry_point, linking_model::specs::Points::alias_point, linking_model::specs::Run::segment_piece, linking_model::specs::Run::step, linking_model::specs::Run::run_from, linking_model::specs::Scattered::scattered, linking_model::specs::Settled::settled, linking_model::specs::TableBytes::segtab_bytes, linking_model::specs::TableBytes::entab_bytes, linking_model::specs::Tables::holder, linking_model::specs::Tables::refused_reference, linking_model::specs::Tables::entries, linking_model::specs::Tree::parent_of, linking_model::specs::Tree::region_of, linking_model::specs::Tree::path, linking_model::specs::Tree::segments, linking_model::specs::Tree::regions, linking_model::specs::Tree::lowest_common, linking_model::specs::Tree::overlaid, linking_model::specs::Tree::overlay_fault, load_recs::specs::Items::values_of, crate::specs::ByteRun::step, crate::specs::ByteRun::run_from, crate::specs::Calling::segment_facts, crate::specs::Calling::bad_from, crate::specs::Calling::call_down_to, crate::specs::Chunks::part_items, crate::specs::Chunks::chunks_after, crate::specs::Facts::seen, crate::specs::Facts::facts, crate::specs::Facts::walked, crate::specs::Faults::fault, crate::specs::FirstBad::faults_from, crate::specs::FirstBad::first_bad_of, crate::specs::FirstBad::first_bad, crate::specs::FirstBad::root_part, crate::specs::FirstBad::fetch_bad, crate::specs::Loaded::text_storage, crate::specs::Loaded::loaded, crate::specs::Parts::target_number, crate::specs::Pieces::pieces, crate::specs::Pieces::piece_records, crate::specs::ReadBack::module_of, crate::specs::Reblocked::reblocked, crate::specs::Relink::relink, crate::specs::Starting::start_fault, crate::specs::SymbolList::symbols_written, crate::specs::SymbolList::first_records, crate::specs::Written::segment_records, crate::specs::Written::written))]
 
-ghost use Rattle.std.specs.Prelude.{◌≡◌, ◌∷◌, [], ◌++◌, None, Some, true, false, map, take, replicate};
+ghost use Rattle.std.specs.Prelude.{◌≡◌, ◌∷◌, [], ◌++◌, None, Some, true, false, length, map, take, replicate};
 ghost use Rattle.linking_model.specs.Run.{Call, Store, Where, Dump, Reached, Stored, Residents, Dumped};
 ghost use Rattle.linking_model.specs.Decks.{shared, apart, nested, a_name, b_name, c_name, x_name, root_name};
 ghost use Rattle.linking_model.specs.Dumps.{shared_before, shared_after, apart_after};
@@ -13,7 +13,7 @@ ghost use Rattle.member_model.specs.Fetched.{entry_address, first_storage, fetch
 ghost use Rattle.member_model.specs.Starting.{start_fault};
 ghost use Rattle.member_model.specs.Segments.{residents};
 ghost use Rattle.member_model.specs.ByteRun.{byte_run};
-ghost use Rattle.member_model.specs.AfterFailure.{IsReached, called_as_far_as};
+ghost use Rattle.member_model.specs.AfterFailure.{IsReached, called_as_far_as, resident_fields};
 ghost use Rattle.member_model.specs.Relink.{relink, Include, OverlayBelow, OverlayRegion, Insert, Alias, Replace};
 ghost use Rattle.member_model.specs.Reblocked.{reblocked_bytes};
 ghost use Rattle.member_model.specs.Written.{written_bytes};
@@ -85,6 +85,7 @@ pub fn failed_call()
     ensures storage { dump
         (called_as_far_as (plain_fetched sharing) (byte_run (plain_fetched sharing) (Call root_name 4 ∷ [])).state 2 1).storage
         0x1000 0x60 ≡ take 0x58 shared_before ++ replicate 8 0xC2 }
+    ensures fields { length (resident_fields (plain_fetched sharing) (byte_run (plain_fetched sharing) (Call root_name 4 ∷ [])).state) ≡ 4 }
 {}
 
 /// Linked alone with its statements, the member is the same member again.

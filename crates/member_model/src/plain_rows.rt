@@ -13,7 +13,7 @@ ghost use Rattle.member_model.specs.ReadBack.{module_of};
 ghost use Rattle.member_model.specs.Relink.{relink, Include, Alias, Replace};
 ghost use Rattle.member_model.specs.Written.{written_bytes, member_written};
 ghost use Rattle.member_model.specs.Reblocked.{reblocked_bytes};
-ghost use Rattle.member_model.specs.Placing.{addresses_over, homeless, placing_bad};
+ghost use Rattle.member_model.specs.Placing.{addresses_over, homeless, is_origin, may_scatter, placing_bad};
 ghost use Rattle.member_model.specs.SymbolList.{symbols_written};
 ghost use Rattle.pds_lib.specs.Stow.{main_entry};
 
@@ -67,6 +67,18 @@ pub fn text_in_pieces()
     ensures whole { length (written_bytes long false 13030) ≡ 3 }
     ensures joined { length (reblocked_bytes (plain_entry long) (written_bytes long false 1024) 13030) ≡ 3 }
     ensures parted { length (reblocked_bytes (plain_entry long) (written_bytes long false 13030) 1024) ≡ 9 }
+{}
+
+/// A module may begin at a multiple of 8 where it ends below 16 MB, and is placed over areas where
+/// it has scatter items and no overlay.
+pub fn where_members_may_stand()
+    ensures at_eight { is_origin 8 0x1000 ≡ true }
+    ensures at_four { is_origin 8 0x1004 ≡ false }
+    ensures last_place { is_origin 15 0xFFFFF0 ≡ true }
+    ensures one_byte_more { is_origin 16 0xFFFFF0 ≡ false }
+    ensures scatter { may_scatter (main_entry (member_written scattering true 1024 (plain_naming scattering))) ≡ true }
+    ensures no_scatter { may_scatter (plain_entry scattering) ≡ false }
+    ensures overlay { may_scatter (record (plain_entry scattering) { attr = 36 }) ≡ false }
 {}
 
 /// Three sections over two areas: the address of the second is where that stands. Without the
