@@ -44,7 +44,7 @@ capped_zero = omega arith
 
 -- ---- records
 
-length-record : (v : Version) (r : List ℕ) → length (record_bytes v r) ≡ width v + length r
+pub length-record : (v : Version) (r : List ℕ) → length (record_bytes v r) ≡ width v + length r
 unfolding record_bytes number_bytes
 length-record One r = omega arith
 length-record Two r = omega arith
@@ -135,11 +135,11 @@ directory_counted lib es i t u t2 u2 b all past these so_far last block sum =
 
 -- ---- the whole
 
-length-header : (lib : Contents) → length (header_bytes lib) ≡ 20
+pub length-header : (lib : Contents) → length (header_bytes lib) ≡ 20
 unfolding header_bytes number_bytes
 length-header lib = refl
 
-length-written : (lib : Contents) → length (written lib) ≡ 20 + (length (directory_bytes lib) + length (flat_map (body_bytes lib) (entries_of lib)))
+pub length-written : (lib : Contents) → length (written lib) ≡ 20 + (length (directory_bytes lib) + length (flat_map (body_bytes lib) (entries_of lib)))
 length-written lib =
     let bodies = flat_map (body_bytes lib) (entries_of lib) in
     let all : length (written lib) ≡ length (header_bytes lib ++ directory_bytes lib) + length bodies = length-append (header_bytes lib ++ directory_bytes lib) bodies in

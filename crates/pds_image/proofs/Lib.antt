@@ -1,3 +1,9 @@
 pub mod Capped
 pub mod Walking
 pub mod Blocks
+pub mod RecordsAgain
+pub mod EntryAgain
+pub mod BlocksAgain
+pub mod PlacesAgain
+pub mod ReadAgain
+pub mod WholeAgain

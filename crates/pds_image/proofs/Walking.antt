@@ -89,7 +89,7 @@ none_from : (o : Option ℕ) → is_some o ≡ false → o ≡ None
 none_from None e = refl
 none_from (Some j) e = absurd cc
 
-name_from : (m n : Name) → name_eq m n ≡ true → m ≡ n
+pub name_from : (m n : Name) → name_eq m n ≡ true → m ≡ n
 name_from m n e =
     let same : m.0 ≡ n.0 = (bytes_eq-Decides m.0 n.0).0 e in
     ap (λ (bs : List ℕ). record { 0 = bs }) same

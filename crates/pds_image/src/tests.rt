@@ -3,7 +3,7 @@ ghost use Rattle.std.specs.List.{AllByRecursion};
 
 use crate::*;
 use le_bytes::{Bytes, Items, Memory, Name};
-use pds_lib::{LibKind, Library, Member, Version};
+use pds_lib::{AliasAt, Entry, LibKind, Library, Member, Version};
 use std::alloc::{AllocError, Global};
 use std::test::Fail;
 
@@ -129,5 +129,70 @@ fn sample_in_the_second_version(rt: HostRuntime) -> Result<(), Fail> {
         wanted.extend_from_slice(RECORDS.get(from..from + len).ok_or("a record")?)?;
     }
     assert!(rt; written.as_slice() == wanted.as_slice());
+    Ok(())
+}
+
+/// Whether two libraries have the same entries, kind, version, and records of each entry.
+fn is_same(a: &Library, b: &Library) -> bool {
+    a.kind() == b.kind()
+        && a.version() == b.version()
+        && a.entries() == b.entries()
+        && a.entries().iter().all(|e| has_same_records(a, b, e))
+}
+
+fn has_same_records(a: &Library, b: &Library, e: &Entry) -> bool {
+    let mine = a.records(e);
+    let others = b.records(e);
+    if mine.count() != others.count() {
+        return false;
+    }
+    for k in 0..mine.count() {
+        if mine.get(k + 1) != others.get(k + 1) {
+            return false;
+        }
+    }
+    true
+}
+
+fn read_again(alloc: Global, library: &Library) -> Result<Library, Fail> {
+    let written = image_of(alloc, library)?.ok_or("an image")?;
+    Ok(Library::read(alloc, written)?)
+}
+
+/// A library of one member of four records with an alias.
+fn modules(alloc: Global, version: Version) -> Result<Library, Fail> {
+    let mut library = Library::empty(alloc, LibKind::Modules, version);
+    let mut aliases = Items::new(alloc);
+    aliases.push(AliasAt {
+        name: Name(*b"ABCDEFGH"),
+        entry: 4,
+        entry_section: 1,
+    })?;
+    let member = Member {
+        name: Name(*b"TEMPNAME"),
+        aliases,
+        attr: 0,
+        length: 8,
+        entry: 0,
+        entry_section: 1,
+        records: records(alloc)?,
+    };
+    library.stow(alloc, member, false)?;
+    Ok(library)
+}
+
+#[test]
+fn what_is_written_is_read_as_the_same_library(rt: HostRuntime) -> Result<(), Fail> {
+    let alloc = rt.alloc();
+    let libraries = [
+        Library::empty(alloc, LibKind::Modules, Version::One),
+        Library::empty(alloc, LibKind::Cards, Version::Two),
+        modules(alloc, Version::One)?,
+        modules(alloc, Version::Two)?,
+        Library::read(alloc, cards(alloc, &CARDS, &[0, 0])?)?,
+    ];
+    for library in &libraries {
+        assert!(rt; is_same(library, &read_again(alloc, library)?));
+    }
     Ok(())
 }

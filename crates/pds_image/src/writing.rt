@@ -1,7 +1,8 @@
 //! The image as a whole.
-ghost use Rattle.std.specs.Prelude.{◌≡◌, ◌≤◌, ◌/◌, ◌++◌, length, IfOk, OnOk};
+ghost use Rattle.std.specs.Prelude.{◌≡◌, ◌≤◌, ◌/◌, ◌++◌, Ok, length, IfOk, OnOk};
 ghost use Rattle.pds_lib.specs.Contents.{entries_of};
 ghost use Rattle.pds_image.specs.Spelling.{version_byte, kind_byte};
+ghost use Rattle.pds_lib.specs.Grammar.{library_of};
 ghost use Rattle.pds_image.specs.Image.{records_in, directory_bytes, header_bytes, written};
 
 use crate::directory::directory_bytes;
@@ -48,15 +49,18 @@ fn put_header(out: &mut Vec<u8>, library: &Library, blocks: usize) -> Result<(),
 }
 
 /// The image of a library: its members in the order of their main names, each with the record that ends
-/// it, and each entry in the directory block before it as long as it goes in. What reading an image did
-/// not look at is zero. The cost is linear in the image, and n log n in its entries.
+/// it, and each entry in the block of the one before it as long as it goes in. Bytes that reading does
+/// not look at are zero, but user data in a library of cards stand as they were read. The image is read
+/// as the same library. The cost is linear in the image, and n log n in its entries.
 ///
 /// # Errors
 /// Want of memory.
 pub fn image(library: &Library, alloc: Global) -> Result<Vec<u8>, Memory>
     requires { length (written library.now) ≤ 67108864 }
-    ensures { IfOk result (λ v. v.items ≡ written library.now) }
+    ensures value { IfOk result (λ v. v.items ≡ written library.now) }
+    ensures again { IfOk result (λ v. library_of v.items ≡ Ok library.now) }
 {
+    library.is_sound();
     let firsts = first_records(alloc, library)?;
     let directory = directory_bytes(alloc, library, &firsts)?;
     let mut out = Vec::new(alloc);

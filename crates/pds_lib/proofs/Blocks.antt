@@ -1,5 +1,5 @@
 -- Reading the entries of a block one after the other, as a loop does.
-use Rattle.std.proofs.Common.{◌≡◌, ℕ, suc, ◌-◌, ◌+◌, ◌≤◌, ◌<◌, ◌&&◌, Bool, true, false, eqb, leb, List, [], ◌∷◌, ◌++◌, length, drop, get_or, Option, Some, None, Result, Ok, Err, refl, sym, ap, ◌∙◌, arith}
+use Rattle.std.proofs.Common.{◌≡◌, ℕ, suc, ◌-◌, ◌+◌, ◌≤◌, ◌<◌, ◌&&◌, Bool, true, false, eqb, leb, List, [], ◌∷◌, ◌++◌, length, drop, get_or, Some, None, Result, Ok, Err, refl, sym, ap, ◌∙◌, arith}
 use Rattle.le_bytes.specs.declared.library_fault.LibFault.{LibFault}
 use Rattle.le_bytes.specs.declared.library_fault.LibFault.TheVariants.{BadDirectory, BadEntry}
 use Rattle.pds_lib.specs.declared.entry.Listed.{Listed}
@@ -11,9 +11,9 @@ use Rattle.le_bytes.specs.declared.name.Name.{Name}
 use Rattle.pds_lib.specs.declared.kinds.LibKind.{LibKind}
 use Rattle.pds_lib.specs.declared.kinds.LibKind.TheVariants.{Cards, Modules}
 use Rattle.pds_lib.specs.Order.{ascends, ascends_after}
-use Rattle.pds_lib.specs.Answers.{◌>>=◌, Fails}
+use Rattle.pds_lib.specs.Answers.{Fails}
 use Rattle.pds_lib.specs.Parts.{number, name_at, is_below}
-use Rattle.pds_lib.specs.Directory.{entry_length, entry_at, entries_from, after_entry, is_good, is_above, has_size, listed_name, listed_of, entry_of, Listing, keeps_rules, rules_from, block_from, blocks_from}
+use Rattle.pds_lib.specs.Directory.{entry_length, entry_at, entries_from, is_good, is_above, has_size, listed_name, listed_of, entry_of, Listing, keeps_rules, rules_from, block_from, blocks_from}
 
 abbrev pub Entries : Type 0
 Entries = Result (List Listed × Bool) LibFault

@@ -5,3 +5,8 @@ pub mod Halving
 pub mod Members
 pub mod Stowing
 pub mod StowLaws
+pub mod ReadEntries
+pub mod ReadPlaces
+pub mod ReadCount
+pub mod ReadSound
+pub mod StowSound

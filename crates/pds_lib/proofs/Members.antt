@@ -1,5 +1,5 @@
 -- The members of a library, seen from its rows.
-use Rattle.std.proofs.Common.{◌≡◌, ℕ, zero, suc, ◌+◌, ◌-◌, ◌≤◌, ◌<◌, Bool, true, false, cond, not, ◌&&◌, eqb, ltb, List, [], ◌∷◌, length, get_or, take, drop, map, Option, Some, None, Result, Ok, Err, refl, sym, ap, ◌∙◌, arith}
+use Rattle.std.proofs.Common.{◌≡◌, ℕ, zero, suc, ◌+◌, ◌-◌, ◌≤◌, ◌<◌, Bool, true, false, cond, not, ◌&&◌, eqb, List, [], ◌∷◌, length, take, drop, map, Option, Some, None, Ok, refl, sym, ap, ◌∙◌, arith}
 use Rattle.std.specs.Prelude.{find, slice_get, option_map, option_and_then}
 use Rattle.std.specs.List.{list_all}
 use Rattle.std.specs.Option.{option_map_or}
@@ -19,7 +19,7 @@ use Rattle.pds_lib.specs.Places.{run_length, ends_of, records_of as records_from
 use Rattle.pds_lib.specs.Directory.{begins_at, owner_from, owner_of, listed_name, Listing, listing_of, rules_of}
 use Rattle.pds_lib.specs.Grammar.{member_of, members_of, library_of}
 use Rattle.pds_lib.specs.Rows.{main_count, row_of}
-use Rattle.pds_lib.specs.Contents.{Held, Contents, entries_of, find_entry, records_of}
+use Rattle.pds_lib.specs.Contents.{Held}
 use Rattle.pds_lib.specs.Stored.{held, stored, row_name, is_few, row_is_there}
 use Rattle.pds_lib.proofs.Halving.{both_true}
 
@@ -123,7 +123,7 @@ low_step : (i j t : ℕ) (xs : List Listed) (b : Bool) → cond b (Some i) (owne
 low_step i j t xs true owned ih = let e : i ≡ j = cc in omega arith
 low_step i j t xs false owned ih = let le = ih owned in omega arith
 
-owner_low : (i j t : ℕ) (xs : List Listed) → owner_from i xs t ≡ Some j → i ≤ j
+pub owner_low : (i j t : ℕ) (xs : List Listed) → owner_from i xs t ≡ Some j → i ≤ j
 unfolding owner_from
 owner_low i j t [] owned = absurd cc
 owner_low i j t (x ∷ xs) owned = low_step i j t xs (begins_at t x) owned (owner_low (i + 1) j t xs)

@@ -1,6 +1,6 @@
 -- What a stow does to the members of a library, seen from its rows.
-use Rattle.std.proofs.Common.{◌≡◌, ℕ, zero, suc, ◌+◌, ◌-◌, ◌≤◌, ◌<◌, Bool, true, false, cond, not, ◌&&◌, ◌||◌, ltb, List, [], ◌∷◌, ◌++◌, length, get_or, take, drop, map, Option, Some, None, Result, Ok, Err, refl, sym, ap, ◌∙◌, arith}
-use Rattle.std.specs.Prelude.{insert, filter, sum_by, slice_index_or, is_ok}
+use Rattle.std.proofs.Common.{◌≡◌, ℕ, ◌+◌, ◌≤◌, ◌<◌, Bool, true, false, cond, ◌||◌, ltb, List, [], ◌∷◌, ◌++◌, length, get_or, take, drop, map, Result, Ok, Err, refl, sym, ap, ◌∙◌, arith}
+use Rattle.std.specs.Prelude.{insert, filter, sum_by, is_ok}
 use Rattle.std.specs.List.{list_any, list_all, prefix_len}
 use Rattle.std.proofs.lemmas.Bool.{ltb-true}
 use Rattle.std.proofs.lemmas.Bool.Decides.{nat_tests}
@@ -24,7 +24,7 @@ use Rattle.pds_lib.specs.Parts.{is_below, part}
 use Rattle.pds_lib.specs.Order.{ascends, ascends_after, place_of}
 use Rattle.pds_lib.specs.Contents.{Held, held_name, Contents, entry_count, record_count}
 use Rattle.pds_lib.specs.Stored.{row_name, stored, held, is_there, row_is_there, is_few}
-use Rattle.pds_lib.specs.Stow.{stays, main_entry, alias_entry, entries_for, has_name, put_in, put_all, held_for, kept, counted, stowed, Stows}
+use Rattle.pds_lib.specs.Stow.{stays, main_entry, alias_entry, entries_for, has_name, put_in, put_all, held_for, counted, stowed, Stows}
 use Rattle.pds_lib.specs.Rows.{row_for, left_of, rows_stowed, total_after, PutsRows, StowsRows}
 use Rattle.pds_lib.proofs.Halving.{both_true, below_trans, ascends_tail}
 use Rattle.pds_lib.proofs.Members.{members}
@@ -294,30 +294,30 @@ still_few given new all few =
 
 -- ---- the order of what stays
 
-lower_after : (m n : Name) (rows : List Row) → is_below m n ≡ true → ascends_after row_name n rows ≡ true → ascends_after row_name m rows ≡ true
-lower_after m n [] below up = refl
-lower_after m n (r ∷ rows) below up =
-    let both = both_true (is_below n (row_name r)) (ascends_after row_name (row_name r) rows) up in
-    rw (below_trans m n (row_name r) below both.0, both.1) refl
+lower_after : {X : Type 0} (name : X → Name) (m n : Name) (xs : List X) → is_below m n ≡ true → ascends_after name n xs ≡ true → ascends_after name m xs ≡ true
+lower_after name m n [] below up = refl
+lower_after name m n (x ∷ xs) below up =
+    let both = both_true (is_below n (name x)) (ascends_after name (name x) xs) up in
+    rw (below_trans m n (name x) below both.0, both.1) refl
 
-filter_step : (m : Name) (b : Bool) (r : Row) (rows left : List Row) → is_below m (row_name r) ≡ true
-    → ascends_after row_name (row_name r) left ≡ true → ascends_after row_name m (cond b (r ∷ left) left) ≡ true
-filter_step m true r rows left below up = rw (below, up) refl
-filter_step m false r rows left below up = lower_after m (row_name r) left below up
+filter_step : {X : Type 0} (name : X → Name) (m : Name) (b : Bool) (x : X) (left : List X) → is_below m (name x) ≡ true
+    → ascends_after name (name x) left ≡ true → ascends_after name m (cond b (x ∷ left) left) ≡ true
+filter_step name m true x left below up = rw (below, up) refl
+filter_step name m false x left below up = lower_after name m (name x) left below up
 
-filter_after : (m : Name) (p : Row → Bool) (rows : List Row) → ascends_after row_name m rows ≡ true → ascends_after row_name m (filter p rows) ≡ true
-filter_after m p [] up = refl
-filter_after m p (r ∷ rows) up =
-    let both = both_true (is_below m (row_name r)) (ascends_after row_name (row_name r) rows) up in
-    filter_step m (p r) r rows (filter p rows) both.0 (filter_after (row_name r) p rows both.1)
+filter_after : {X : Type 0} (name : X → Name) (m : Name) (p : X → Bool) (xs : List X) → ascends_after name m xs ≡ true → ascends_after name m (filter p xs) ≡ true
+filter_after name m p [] up = refl
+filter_after name m p (x ∷ xs) up =
+    let both = both_true (is_below m (name x)) (ascends_after name (name x) xs) up in
+    filter_step name m (p x) x (filter p xs) both.0 (filter_after name (name x) p xs both.1)
 
-first_filter : (b : Bool) (r : Row) (left : List Row) → ascends_after row_name (row_name r) left ≡ true → ascends row_name (cond b (r ∷ left) left) ≡ true
-first_filter true r left up = up
-first_filter false r left up = ascends_tail row_name (row_name r) left up
+first_filter : {X : Type 0} (name : X → Name) (b : Bool) (x : X) (left : List X) → ascends_after name (name x) left ≡ true → ascends name (cond b (x ∷ left) left) ≡ true
+first_filter name true x left up = up
+first_filter name false x left up = ascends_tail name (name x) left up
 
-pub left_ascends : (p : Row → Bool) (rows : List Row) → ascends row_name rows ≡ true → ascends row_name (filter p rows) ≡ true
-left_ascends p [] up = refl
-left_ascends p (r ∷ rows) up = first_filter (p r) r (filter p rows) (filter_after (row_name r) p rows up)
+pub left_ascends : {X : Type 0} (name : X → Name) (p : X → Bool) (xs : List X) → ascends name xs ≡ true → ascends name (filter p xs) ≡ true
+left_ascends name p [] up = refl
+left_ascends name p (x ∷ xs) up = first_filter name (p x) x (filter p xs) (filter_after name (name x) p xs up)
 
 -- one entry more is counted
 pub count_more : (image : List ℕ) (places : List Span) (given : List (List (List ℕ))) (rows : List Row) (i : ℕ) (d : Row) (total e whole : ℕ) → i < length rows

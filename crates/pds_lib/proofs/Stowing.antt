@@ -1,11 +1,10 @@
 -- Members go in at the place of their names.
-use Rattle.std.proofs.Common.{◌≡◌, ℕ, zero, suc, ◌+◌, ◌-◌, ◌≤◌, ◌<◌, Bool, true, false, cond, not, ◌&&◌, ◌||◌, List, [], ◌∷◌, ◌++◌, length, get_or, take, drop, map, Option, Some, None, Result, Ok, Err, refl, sym, ap, ◌∙◌, arith}
-use Rattle.std.specs.Prelude.{find, slice_get, is_some, insert, filter}
-use Rattle.std.specs.List.{list_any, list_all, prefix_len}
+use Rattle.std.proofs.Common.{◌≡◌, ℕ, zero, suc, ◌+◌, ◌<◌, Bool, true, false, cond, ◌||◌, List, [], ◌∷◌, length, Option, Some, None, Result, Ok, Err, refl, sym, ap, ◌∙◌, arith}
+use Rattle.std.specs.Prelude.{find, slice_get, is_some, insert}
+use Rattle.std.specs.List.{list_any}
 use Rattle.le_bytes.specs.declared.name.Name.{Name}
 use Rattle.le_bytes.specs.Names.{name_eq}
 use Rattle.pds_lib.specs.declared.entry.Entry.{Entry}
-use Rattle.pds_lib.specs.declared.entry.Span.{Span}
 use Rattle.pds_lib.specs.declared.member.StowFault.{StowFault}
 use Rattle.pds_lib.specs.declared.member.StowFault.TheVariants.{Exists, TooManyRecords, Memory}
 use Rattle.pds_lib.specs.declared.table.Row.{Row}

@@ -1,14 +1,13 @@
 -- The library that an image holds, or its first fault.
-use Rattle.std.specs.Prelude.{ℕ, ◌-◌, List, map, take, drop, slice_get, if◌then◌else◌, Result, Ok, Err}
+use Rattle.std.specs.Prelude.{ℕ, ◌-◌, List, map, take, drop, slice_get, if◌then◌else◌, Result, Ok}
 use Rattle.std.specs.Option.{option_map_or}
 use Rattle.le_bytes.specs.declared.name.Name.{Name}
 use Rattle.le_bytes.specs.declared.library_fault.LibFault.{LibFault}
-use Rattle.pds_lib.specs.declared.entry.Entry.{Entry}
 use Rattle.pds_lib.specs.declared.entry.Span.{Span}
 use Rattle.pds_lib.specs.declared.entry.Listed.{Listed}
 use Rattle.pds_lib.specs.Parts.{part}
 use Rattle.pds_lib.specs.Answers.{◌>>=◌}
-use Rattle.pds_lib.specs.Directory.{Listing, listing_of, owner_of, rules_of}
+use Rattle.pds_lib.specs.Directory.{listing_of, owner_of, rules_of}
 use Rattle.pds_lib.specs.Places.{records_of, ends_of, run_length}
 use Rattle.pds_lib.specs.Contents.{Held, Contents}
 

@@ -5,6 +5,7 @@ pub mod Directory
 pub mod Places
 pub mod Order
 pub mod Contents
+pub mod Sound
 pub mod Stored
 pub mod Forms
 pub mod Grammar

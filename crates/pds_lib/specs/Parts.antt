@@ -1,5 +1,5 @@
 -- Numbers, names and parts of an image.
-use Rattle.std.specs.Prelude.{ℕ, ◌+◌, List, drop, slice_range, ◌∷◌, [], Bool}
+use Rattle.std.specs.Prelude.{ℕ, ◌+◌, List, drop, slice_range, Bool}
 use Rattle.std.specs.declared.cmp.Ordering.{Ordering}
 use Rattle.std.specs.Ordering.{is_lt, nat_cmp}
 use Rattle.std.specs.Cmp.Lexicographic.{slice_cmp}

@@ -1,5 +1,5 @@
 -- The records behind the directory, one after the other, with the first fault.
-use Rattle.std.specs.Prelude.{ℕ, zero, suc, ◌+◌, Bool, true, false, not, ◌&&◌, ◌||◌, ◌==◌, nat_lt, nat_le, if◌then◌else◌, List, [], ◌∷◌, ◌++◌, length, drop, take, Option, Some, None, Result, Ok, Err}
+use Rattle.std.specs.Prelude.{ℕ, zero, suc, ◌+◌, Bool, true, not, ◌&&◌, ◌||◌, ◌==◌, nat_lt, nat_le, if◌then◌else◌, List, [], ◌∷◌, ◌++◌, length, Option, Some, None, Result, Ok, Err}
 use Rattle.std.specs.List.{prefix_len}
 use Rattle.le_bytes.specs.declared.library_fault.LibFault.{LibFault}
 use Rattle.le_bytes.specs.declared.library_fault.LibFault.TheVariants.{BadRecord}
@@ -9,7 +9,7 @@ use Rattle.pds_lib.specs.declared.kinds.Version.{Version}
 use Rattle.pds_lib.specs.declared.kinds.Version.TheVariants.{One, Two}
 use Rattle.pds_lib.specs.declared.entry.Span.{Span}
 use Rattle.pds_lib.specs.declared.header.Head.{Head}
-use Rattle.pds_lib.specs.Parts.{number, part}
+use Rattle.pds_lib.specs.Parts.{number}
 use Rattle.pds_lib.specs.Header.{directory_end}
 
 -- the bytes that hold the length of a record

@@ -1,13 +1,14 @@
 -- Where the records of an entry are kept: in the image that was read, or as they were stowed.
 use Rattle.std.specs.Prelude.{ℕ, List, [], map, length, take, drop, Bool, true, nat_lt, slice_index_or}
 use Rattle.le_bytes.specs.declared.name.Name.{Name}
-use Rattle.pds_lib.specs.declared.entry.Entry.{Entry}
 use Rattle.pds_lib.specs.declared.entry.Span.{Span}
 use Rattle.pds_lib.specs.declared.table.Row.{Row}
 use Rattle.pds_lib.specs.declared.table.Store.{Store}
 use Rattle.pds_lib.specs.declared.table.Store.TheVariants.{Read, Given}
 use Rattle.pds_lib.specs.Parts.{part}
-use Rattle.pds_lib.specs.Contents.{Held}
+use Rattle.pds_lib.specs.declared.kinds.LibKind.{LibKind}
+use Rattle.pds_lib.specs.declared.kinds.Version.{Version}
+use Rattle.pds_lib.specs.Contents.{Held, Contents}
 
 abbrev pub row_name : Row → Name
 row_name r = r.entry.name
@@ -19,6 +20,10 @@ stored image places given (Given i) = slice_index_or given i []
 abbrev pub held : List ℕ → List Span → List (List (List ℕ)) → Row → Held
 held image places given r =
     record { entry = r.entry; user_data = part image r.user_data; records = stored image places given r.store }
+
+-- the library that is kept so
+abbrev pub contents : Version → LibKind → List ℕ → List Span → List (List (List ℕ)) → List Row → Contents
+contents version kind image places given rows = record { version = version; kind = kind; members = map (held image places given) rows }
 
 -- what was stowed is among so many
 abbrev pub is_there : ℕ → Store → Bool

@@ -1,5 +1,5 @@
 -- A member goes into a library of load modules.
-use Rattle.std.specs.Prelude.{◌≡◌, ℕ, ◌+◌, ◌<◌, ◌^◌, Bool, true, false, not, ◌&&◌, ◌||◌, nat_lt, if◌then◌else◌, List, [], ◌∷◌, ◌++◌, length, map, filter, insert, Result, Ok, Err}
+use Rattle.std.specs.Prelude.{◌≡◌, ℕ, ◌<◌, ◌^◌, Bool, true, false, not, ◌&&◌, ◌||◌, nat_lt, if◌then◌else◌, List, [], ◌∷◌, length, map, filter, insert, Result, Ok, Err}
 use Rattle.std.specs.List.{list_any, AllByRecursion}
 use Rattle.le_bytes.specs.declared.name.Name.{Name}
 use Rattle.le_bytes.specs.Names.{name_eq}
@@ -24,18 +24,24 @@ goes m e = name_eq e.main m.name || (e.alias && is_named m e.name)
 abbrev pub stays : Member → Bool → Entry → Bool
 stays m replace e = not (replace && goes m e)
 
-abbrev pub main_entry : Member → Entry
-main_entry m =
-    record { name = m.name; main = m.name; alias = false; attr = m.attr; length = m.length; entry = m.entry; entry_section = m.entry_section }
+-- an alias has the member's attribute and length, and an entry point of its own
+abbrev pub entry_with : Member → Name → Bool → ℕ → ℕ → Entry
+entry_with m name alias entry section =
+    record { name = name; main = m.name; alias = alias; attr = m.attr; length = m.length; entry = entry; entry_section = section }
 
--- an alias has the member's attribute and length and an entry point of its own
+abbrev pub main_entry : Member → Entry
+main_entry m = entry_with m m.name false m.entry m.entry_section
+
 abbrev pub alias_entry : Member → AliasAt → Entry
-alias_entry m a =
-    record { name = a.name; main = m.name; alias = true; attr = m.attr; length = m.length; entry = a.entry; entry_section = a.entry_section }
+alias_entry m a = entry_with m a.name true a.entry a.entry_section
 
 -- the entries of a member: its own, and then its aliases in their order
 abbrev pub entries_for : Member → List Entry
 entries_for m = main_entry m ∷ map (alias_entry m) m.aliases
+
+-- names are eight bytes, and two bytes count sections
+abbrev pub HasWidths : Entry → Type 0
+HasWidths e = (length e.name.0 ≡ 8) × (length e.main.0 ≡ 8) × (e.entry_section < 2 ^ 16)
 
 abbrev pub has_name : {X : Type 0} → (X → Name) → List X → Name → Bool
 has_name name xs n = list_any (λ x. name_eq (name x) n) xs

@@ -28,16 +28,17 @@ pub struct Library {
 }
 
 impl Model for Library {
-    ghost use Rattle.std.specs.Prelude.{◌≡◌, ◌<◌, map, length, IsTrue};
+    ghost use Rattle.std.specs.Prelude.{◌<◌, length, IsTrue};
     ghost use Rattle.std.specs.List.{list_all};
-    ghost use Rattle.pds_lib.specs.Contents.{Contents, record_count};
-    ghost use Rattle.pds_lib.specs.Stored.{held, row_is_there, is_few};
+    ghost use Rattle.pds_lib.specs.Contents.{Contents};
+    ghost use Rattle.pds_lib.specs.Sound.{IsSound};
+    ghost use Rattle.pds_lib.specs.Stored.{contents, row_is_there, is_few};
 
     ghost Value = { Contents };
 
-    ghost view = { λ l. record { version = l.version; kind = l.kind; members = map (held l.image.items l.places.items l.given.items) l.table } };
+    ghost view = { λ l. contents l.version l.kind l.image.items l.places.items l.given.items l.table };
 
-    ghost invariant = { λ l. (length l.places.items < 16777216) × IsTrue (list_all is_few l.given.items) × IsTrue (list_all (row_is_there (length l.given.items)) l.table) };
+    ghost invariant = { λ l. (length l.places.items < 16777216) × IsTrue (list_all is_few l.given.items) × IsTrue (list_all (row_is_there (length l.given.items)) l.table) × IsSound (contents l.version l.kind l.image.items l.places.items l.given.items l.table) };
 }
 
 fn entry_at(entries: &[Entry], k: usize) -> Option<&Entry>
@@ -81,6 +82,7 @@ impl Library {
     ghost use Rattle.std.specs.Prelude.{◌≡◌, [], IsTrue};
     ghost use Rattle.std.specs.Option.{option_copied};
     ghost use Rattle.pds_lib.specs.Contents.{Contents, entries_of, find_entry, records_of, user_data_of};
+    ghost use Rattle.pds_lib.specs.Sound.{IsSound};
 
     /// A library of no members. Keeps the allocator and takes no memory.
     pub fn empty(alloc: Global, kind: LibKind, version: Version) -> Library
@@ -94,6 +96,13 @@ impl Library {
             given: Vec::new(alloc),
             table: Table::new(alloc),
         }
+    }
+
+    /// What holds of every library, for the proofs of callers. Does nothing.
+    pub fn is_sound(&self)
+        ensures { IsSound self.now }
+    {
+        let _ = &self.table;
     }
 
     /// What its records are.

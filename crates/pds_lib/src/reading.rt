@@ -7,7 +7,8 @@ ghost use Rattle.pds_lib.specs.Grammar.{main_of, library_of};
 ghost use Rattle.pds_lib.specs.Rows.{main_count, row_of};
 ghost use Rattle.std.specs.List.{list_all};
 ghost use Rattle.pds_lib.specs.Order.{ascends};
-ghost use Rattle.pds_lib.specs.Stored.{row_name, held, row_is_there};
+ghost use Rattle.pds_lib.specs.Stored.{row_name, contents, row_is_there};
+ghost use Rattle.pds_lib.specs.Sound.{IsSound};
 
 use crate::directory::{Directory, read_directory};
 use crate::entry::{Listed, Span};
@@ -121,7 +122,8 @@ fn rows_of(alloc: Global, d: &Directory, places: &[Span]) -> Result<Vec<Row>, Al
 /// What an image holds: its header, where its records lie, and the rows of its entries.
 #[tactic(auto, unfolding(crate::specs::Grammar::library_of))]
 fn parts_of(alloc: Global, image: &[u8]) -> Result<(Head, Vec<Span>, Table), LibStop>
-    ensures gives { Gives (λ x. record { version = x.0.version; kind = x.0.kind; members = map (held image.now x.1.items []) x.2 }) result (library_of image.now) }
+    ensures gives { Gives (λ x. contents x.0.version x.0.kind image.now x.1.items [] x.2) result (library_of image.now) }
+    ensures sound { IfOk result (λ x. IsSound (contents x.0.version x.0.kind image.now x.1.items [] x.2)) }
     ensures few { IfOk result (λ x. length x.1.items < 16777216) }
     ensures there { IfOk result (λ x. IsTrue (list_all (row_is_there 0) x.2)) }
 {

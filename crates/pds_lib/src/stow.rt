@@ -1,10 +1,10 @@
 //! A member goes into a library.
 ghost use Rattle.std.specs.Prelude.{◌≡◌, ◌≤◌, ◌<◌, ◌+◌, ◌^◌, ℕ, List, [], length, map, filter, insert, IfOk, IsTrue};
-ghost use Rattle.std.specs.List.{list_any, list_all};
+ghost use Rattle.std.specs.List.{list_any, list_all, AllByRecursion};
 ghost use Rattle.pds_lib.specs.Contents.{entry_count, record_count};
 ghost use Rattle.le_bytes.specs.Names.{name_eq};
 ghost use Rattle.pds_lib.specs.Order.{ascends, place_of};
-ghost use Rattle.pds_lib.specs.Stow.{is_named, goes, stays, main_entry, alias_entry, entries_for, has_name, put_in, put_all};
+ghost use Rattle.pds_lib.specs.Stow.{is_named, goes, stays, entry_with, main_entry, alias_entry, entries_for, HasWidths, has_name, put_in, put_all};
 ghost use Rattle.pds_lib.specs.Stored.{row_name, stored, held, is_few};
 ghost use Rattle.pds_lib.specs.Rows.{row_for, PutsRow, PutsRows, rows_stowed, total_after, StowsRows};
 ghost use Rattle.pds_lib.specs.declared.table.Row.{Row};
@@ -52,36 +52,47 @@ fn rows_kept(alloc: Global, rows: &[Row], m: &Member, replace: bool) -> Result<V
     Ok(kept)
 }
 
-fn main_entry(m: &Member) -> Entry
-    ensures { result ≡ main_entry m.now }
+/// The same name, whose letters are eight.
+fn same_name(n: &Name) -> Name
+    ensures name { result ≡ n.now }
+    ensures eight { length n.now.0 ≡ 8 }
+{
+    Name(n.0)
+}
+
+/// An entry of a member: its own, or an alias.
+fn entry_with(m: &Member, name: &Name, alias: bool, entry: u32, entry_section: u16) -> Entry
+    ensures entry { result ≡ entry_with m.now name.now alias entry entry_section }
+    ensures widths { HasWidths (entry_with m.now name.now alias entry entry_section) }
 {
     Entry {
-        name: m.name,
-        main: m.name,
-        alias: false,
+        name: same_name(name),
+        main: same_name(&m.name),
+        alias,
         attr: m.attr,
         length: m.length,
-        entry: m.entry,
-        entry_section: m.entry_section,
+        entry,
+        entry_section,
     }
+}
+
+fn main_entry(m: &Member) -> Entry
+    ensures entry { result ≡ main_entry m.now }
+    ensures widths { HasWidths (main_entry m.now) }
+{
+    entry_with(m, &m.name, false, m.entry, m.entry_section)
 }
 
 fn alias_entry(m: &Member, a: &AliasAt) -> Entry
-    ensures { result ≡ alias_entry m.now a.now }
+    ensures entry { result ≡ alias_entry m.now a.now }
+    ensures widths { HasWidths (alias_entry m.now a.now) }
 {
-    Entry {
-        name: a.name,
-        main: m.name,
-        alias: true,
-        attr: m.attr,
-        length: m.length,
-        entry: a.entry,
-        entry_section: a.entry_section,
-    }
+    entry_with(m, &a.name, true, a.entry, a.entry_section)
 }
 
 fn entries_for(alloc: Global, m: &Member) -> Result<Vec<Entry>, AllocError>
-    ensures { IfOk result (λ v. v.items ≡ entries_for m.now) }
+    ensures entries { IfOk result (λ v. v.items ≡ entries_for m.now) }
+    ensures widths { IfOk result (λ _. AllByRecursion HasWidths (entries_for m.now)) }
 {
     let mut entries = Vec::new(alloc);
     entries.push(main_entry(m))?;
@@ -196,6 +207,7 @@ fn stow_rows(
     requires rows { length rows.now < 2 ^ 32 }
     ensures gives { StowsRows result (rows_stowed (length given.now) rows.now m.now replace) (total_after places.now given.now rows.now m.now replace) }
     ensures ascending { IfOk result (λ v. IsTrue (ascends row_name v.items)) }
+    ensures widths { IfOk result (λ _. AllByRecursion HasWidths (entries_for m.now)) }
 {
     let added = m.records.len();
     if added >= 0x1_0000_0000 {

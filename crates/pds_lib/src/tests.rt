@@ -1,4 +1,5 @@
-ghost use Rattle.std.specs.Prelude.{◌≡◌, ◌∷◌, []};
+ghost use Rattle.std.specs.Prelude.{◌≡◌, ◌∷◌, ◌<◌, [], false, IfOk};
+ghost use Rattle.pds_lib.specs.Stow.{is_named, last_name};
 
 use crate::*;
 use le_bytes::{Items, LibFault, Name};
@@ -78,7 +79,9 @@ fn one_changed_byte(rt: HostRuntime) -> Result<(), Fail> {
 #[test]
 fn another_length(rt: HostRuntime) -> Result<(), Fail> {
     let cases = [
-        (275usize, LibFault::BadHeader),
+        (0usize, LibFault::BadHeader),
+        (7, LibFault::BadHeader),
+        (275, LibFault::BadHeader),
         (276, LibFault::BadRecord(1)),
         (300, LibFault::BadRecord(1)),
         (361, LibFault::BadRecord(5)),
@@ -115,4 +118,86 @@ fn without_records(alloc: Global) -> Member
         entry_section: 0,
         records: Items::new(alloc),
     }
+}
+
+/// A member without records and with one alias, whose names are one letter each.
+fn member(alloc: Global, name: u8, alias: u8) -> Result<Member, StowFault>
+    requires name { name < 255 }
+    requires alias { alias < 255 }
+    ensures named { IfOk result (λ m. is_named m last_name ≡ false) }
+    ensures records { IfOk result (λ m. m.records ≡ []) }
+    ensures length { IfOk result (λ m. m.length ≡ 0) }
+    ensures entry { IfOk result (λ m. m.entry ≡ 0) }
+    ensures aliases { IfOk result (λ m. m.aliases ≡ record { name = record { 0 = alias ∷ alias ∷ alias ∷ alias ∷ alias ∷ alias ∷ alias ∷ alias ∷ [] }; entry = 0; entry_section = 0 } ∷ []) }
+{
+    let mut aliases = Items::new(alloc);
+    aliases.push(AliasAt {
+        name: Name([alias; 8]),
+        entry: 0,
+        entry_section: 0,
+    })?;
+    Ok(Member {
+        name: Name([name; 8]),
+        aliases,
+        attr: 0,
+        length: 0,
+        entry: 0,
+        entry_section: 0,
+        records: Items::new(alloc),
+    })
+}
+
+/// A member of `name` stowed into a library of A, with the alias X, and B, with the alias Y.
+fn stowed_third(
+    alloc: Global,
+    name: u8,
+    alias: u8,
+    replace: bool,
+) -> Result<(Library, Option<StowFault>), StowFault>
+    requires name { name < 255 }
+    requires alias { alias < 255 }
+{
+    let mut library = Library::empty(alloc, LibKind::Modules, Version::One);
+    library.stow(alloc, member(alloc, b'A', b'X')?, false)?;
+    library.stow(alloc, member(alloc, b'B', b'Y')?, false)?;
+    let answer = library
+        .stow(alloc, member(alloc, name, alias)?, replace)
+        .err();
+    Ok((library, answer))
+}
+
+/// The letter of each entry and that of its main entry.
+fn letters(alloc: Global, library: &Library) -> Result<Vec<u8>, AllocError> {
+    let mut letters = Vec::new(alloc);
+    for e in library.entries() {
+        letters.push(e.name.0[0])?;
+        letters.push(e.main.0[0])?;
+    }
+    Ok(letters)
+}
+
+fn exists(letter: u8) -> Option<StowFault> {
+    Some(StowFault::Exists(Name([letter; 8])))
+}
+
+#[test]
+fn aliases_of_a_third_member(rt: HostRuntime) -> Result<(), Fail> {
+    let cases = [
+        (b'C', b'X', true, None, "AABBCCXCYB"),
+        (b'C', b'X', false, exists(b'X'), "AABBXAYB"),
+        (b'A', b'Z', true, None, "AABBYBZA"),
+        (b'A', b'Z', false, exists(b'A'), "AABBXAYB"),
+        (b'C', b'B', true, exists(b'B'), "AABBXAYB"),
+        (b'X', b'Z', true, None, "AABBXXYBZX"),
+        (b'C', b'C', true, exists(b'C'), "AABBXAYB"),
+    ];
+    for (name, alias, replace, answer, wanted) in cases {
+        if name == 255 || alias == 255 {
+            return Err("a letter".into());
+        }
+        let (library, fault) = stowed_third(rt.alloc(), name, alias, replace)?;
+        assert!(rt; fault == answer);
+        assert!(rt; letters(rt.alloc(), &library)?.as_slice() == wanted.as_bytes());
+    }
+    Ok(())
 }

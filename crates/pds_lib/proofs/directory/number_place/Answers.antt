@@ -1,4 +1,4 @@
-use Rattle.std.proofs.Common.{ℕ, sym, arith, ltb}
+use Rattle.std.proofs.Common.{arith, ltb}
 use Rattle.std.proofs.lemmas.List.Sums.{prefix_len-le-length}
 use Rattle.pds_lib.proofs.Halving.{number_up, number_down}
 use Rattle.pds_lib.proofs.directory.number_place.Goals as goal

@@ -1,6 +1,5 @@
-use Rattle.std.proofs.Common.{◌≡◌, true, sym}
+use Rattle.std.proofs.Common.{sym}
 use Rattle.pds_lib.proofs.Blocks.{good_has_size, entry_is_above}
-use Rattle.pds_lib.specs.Directory.{is_good}
 use Rattle.pds_lib.proofs.entries.read_entry.Goals as goal
 
 pub listed_of-requires-clause-size : goal.listed_of-requires-clause-size

@@ -1,7 +1,7 @@
-use Rattle.std.proofs.Common.{ℕ, ◌≡◌, ◌+◌, ◌++◌, List, ◌∷◌, sym, ap, ◌∙◌, arith, get_or, drop}
+use Rattle.std.proofs.Common.{◌+◌, ◌++◌, List, sym, ap, ◌∙◌, drop}
 use Rattle.std.proofs.lemmas.List.{drop_more, drop_all}
 use Rattle.pds_lib.specs.declared.entry.Span.{Span}
-use Rattle.pds_lib.specs.Places.{ends_from, end_at, rises}
+use Rattle.pds_lib.specs.Places.{ends_from}
 use Rattle.pds_lib.proofs.Walk.{end_noted, no_ends_left, ends_rise}
 use Rattle.pds_lib.proofs.places.ends_of.Goals as goal
 

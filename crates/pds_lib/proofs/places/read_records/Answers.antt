@@ -1,4 +1,4 @@
-use Rattle.std.proofs.Common.{sym, arith, ◌≡◌}
+use Rattle.std.proofs.Common.{arith}
 use Rattle.std.proofs.lemmas.List.{length_push}
 use Rattle.pds_lib.proofs.Walk.{record_taken, record_wanting, image_ends, image_goes_on}
 use Rattle.pds_lib.proofs.places.read_records.Goals as goal

@@ -1,5 +1,5 @@
 use Rattle.std.proofs.Common.{refl, ap, ◌∙◌}
-use Rattle.std.specs.Prelude.{slice_get, option_and_then, Option}
+use Rattle.std.specs.Prelude.{slice_get, option_and_then}
 use Rattle.std.proofs.Common.{ℕ, List}
 use Rattle.pds_lib.specs.Directory.{owner_of}
 use Rattle.pds_lib.proofs.Members.{known_count}

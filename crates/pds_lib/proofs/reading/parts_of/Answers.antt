@@ -1,9 +1,11 @@
-use Rattle.std.proofs.Common.{List, ◌∙◌, ap, map}
+use Rattle.std.proofs.Common.{List, ◌∙◌, ap, map, arith}
 use Rattle.pds_lib.specs.declared.entry.Span.{Span}
 use Rattle.pds_lib.specs.Directory.{rules_of}
 use Rattle.pds_lib.specs.Places.{ends_of}
 use Rattle.pds_lib.specs.Rows.{row_of}
 use Rattle.pds_lib.proofs.Members.{library_is, rows_there}
+use Rattle.pds_lib.proofs.ReadEntries.{are_bytes}
+use Rattle.pds_lib.proofs.ReadSound.{read_sound}
 use Rattle.pds_lib.proofs.reading.parts_of.Goals as goal
 
 pub returns-clause-gives : goal.returns-clause-gives
@@ -16,3 +18,7 @@ returns-clause-gives c =
 pub returns-clause-there : goal.returns-clause-there
 returns-clause-there c =
     rows_there c.in_ok-table.table c.as_slice-3.result.now c.in_ok-d.d.entries (c.in_ok-table.ensures ∙ c.in_ok-rows.ensures.rows)
+
+pub returns-clause-sound : goal.returns-clause-sound
+returns-clause-sound c =
+    read_sound c.args.image.now _ (are_bytes c.args.image.now (λ i. let small = c.type_inv.image i in omega arith)) (returns-clause-gives c)

@@ -1,5 +1,5 @@
 use Rattle.std.proofs.Common.{arith}
-use Rattle.pds_lib.proofs.StowLaws.{count_more, none_more}
+use Rattle.pds_lib.proofs.StowLaws.{count_more}
 use Rattle.pds_lib.proofs.stow.count_rows.Goals as goal
 
 pub loop-r-preserved : goal.loop-r-preserved

@@ -1,6 +1,5 @@
-use Rattle.std.proofs.Common.{List, sym, ap, ◌∙◌}
+use Rattle.std.proofs.Common.{sym, ap, ◌∙◌}
 use Rattle.std.proofs.lemmas.List.{drop_more, drop_all}
-use Rattle.pds_lib.specs.declared.entry.Entry.{Entry}
 use Rattle.pds_lib.specs.Stored.{row_name}
 use Rattle.pds_lib.specs.Rows.{row_for}
 use Rattle.pds_lib.specs.Stow.{put_all}

@@ -1,5 +1,4 @@
-use Rattle.std.proofs.Common.{sym, ap, List}
-use Rattle.pds_lib.specs.declared.entry.Listed.{Listed}
+use Rattle.std.proofs.Common.{sym, ap}
 use Rattle.pds_lib.specs.Directory.{rules_from}
 use Rattle.pds_lib.proofs.Blocks.{rule_kept, rule_broken, rules_kept}
 use Rattle.pds_lib.proofs.directory.Directory.check.Goals as goal

@@ -1,7 +1,6 @@
 use Rattle.std.proofs.Common.{◌∙◌, List, sym, ap}
 use Rattle.std.specs.Prelude.{option_map, find}
 use Rattle.pds_lib.specs.declared.table.Row.{Row}
-use Rattle.pds_lib.specs.Stored.{stored}
 use Rattle.pds_lib.proofs.Members.{records_found, records_stored, none_stored, with_name}
 use Rattle.pds_lib.proofs.library.Library.records.Goals as goal
 
