@@ -1,0 +1,12 @@
+pub mod Assigned
+pub mod Congruent
+pub mod Depths
+pub mod Displaced
+pub mod Lowest
+pub mod Maps
+pub mod Moved
+pub mod Nexts
+pub mod Ranges
+pub mod Reaches
+pub mod Sized
+pub mod Starts

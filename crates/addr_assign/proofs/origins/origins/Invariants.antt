@@ -1,0 +1,8 @@
+use Rattle.std.proofs.Common.{◌≡◌, map}
+use Rattle.std.specs.List.{range_with_len}
+use Rattle.linking_model.specs.Places.{origin_by}
+use Rattle.addr_assign.specs.Sizes.{sizes_of}
+use Rattle.addr_assign.proofs.origins.origins.Given as goal
+
+abbrev pub invariant-loop-i : goal.invariant-loop-i
+invariant-loop-i l = l.origins.items ≡ map (origin_by l.t.tree (sizes_of l.sizes)) (range_with_len 1 l.i)

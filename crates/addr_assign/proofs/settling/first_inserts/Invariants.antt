@@ -1,0 +1,9 @@
+use Rattle.std.proofs.Common.{◌≡◌, ◌-◌, length, drop}
+use Rattle.std.specs.HashMap.{get}
+use Rattle.le_bytes.specs.declared.name.Name.{Name}
+use Rattle.le_bytes.specs.Names.{name_eq}
+use Rattle.addr_assign.specs.Maps.{first_insert}
+use Rattle.addr_assign.proofs.settling.first_inserts.Given as goal
+
+abbrev pub invariant-loop-done : goal.invariant-loop-done
+invariant-loop-done l = (n : Name) → get name_eq l.moves n ≡ first_insert (drop (length l.inserts - l.done) l.inserts) n

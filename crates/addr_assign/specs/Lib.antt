@@ -1,0 +1,6 @@
+pub mod Answers
+pub mod Laid
+pub mod Maps
+pub mod Reach
+pub mod Seen
+pub mod Sizes

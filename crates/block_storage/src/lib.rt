@@ -1,0 +1,10 @@
+//! A linked program of one segment in storage: its text laid, its constants with their numbers, and
+//! every section at its place in one block.
+#![tactic(auto)]
+
+mod block;
+mod gathering;
+mod laying;
+mod moving;
+
+pub use block::block_bytes;

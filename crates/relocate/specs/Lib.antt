@@ -1,0 +1,5 @@
+pub mod Agreeing
+pub mod Listed
+pub mod Patched
+pub mod Ready
+pub mod Relocated

@@ -1,0 +1,15 @@
+//! Every constant of a program with its number, and the bytes of the overlay tables.
+#![tactic(auto)]
+
+mod addresses;
+mod branches;
+mod laws;
+mod numbers;
+mod relocating;
+#[cfg(test)]
+mod tests;
+mod writing;
+
+pub use laws::stored_text_is_linked;
+pub use numbers::{Shift, patch};
+pub use relocating::relocate_all;

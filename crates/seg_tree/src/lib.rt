@@ -1,0 +1,9 @@
+//! The segments of an overlay program, as OVERLAY statements begin them.
+#![tactic(auto)]
+
+mod node;
+#[cfg(test)]
+mod tests;
+mod tree;
+
+pub use tree::{SegTree, TreeFault};
