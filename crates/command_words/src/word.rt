@@ -27,7 +27,7 @@ pub(crate) fn setting_in(word: &str) -> Option<Setting<'_>>
 }
 
 /// Whether a word has this key.
-pub(crate) fn has_key(key: Name, word: &str) -> bool
+pub fn has_key(key: Name, word: &str) -> bool
     ensures { result ≡ has_key key word.now }
 {
     match setting_in(word) {

@@ -16,6 +16,7 @@ use Rattle.linkedit_top.specs.declared.answer.Answer.{Answer}
 abbrev pub GainsPrefix : List ℕ → Option (List ℕ) → List ℕ → Type 0
 GainsPrefix before after text = (n : ℕ) × (after ≡ Some (before ++ take n text))
 
+-- the bytes held are those held before and the whole text
 abbrev pub GainsAll : List ℕ → Option (List ℕ) → List ℕ → Type 0
 GainsAll before after text = after ≡ Some (before ++ text)
 

@@ -27,6 +27,7 @@ GoStatusHasCause old new path (Refused (SetAbsent dd)) = (dd ≡ syslin) × Miss
 GoStatusHasCause old new path (Refused (TooLong dd)) = (dd ≡ syslin) × LongsRose old new path
 GoStatusHasCause old new path status = IsOwn status
 
+-- the same of what `go` answers
 abbrev pub GoHasCause : Counts → Counts → List ℕ → Result Answer Stop → Type 0
 GoHasCause old new path (Ok found) = NoFault old new × GoStatusHasCause old new path found.status
 GoHasCause old new path (Err (Read dd)) = (dd ≡ syslin) × FaultsRose old new path

@@ -3,6 +3,7 @@ use Rattle.std.specs.Prelude.{ℕ}
 use Rattle.linkedit_top.specs.declared.status.Status.{Status}
 use Rattle.linkedit_top.specs.declared.status.Status.TheVariants.{Done, DoneWithUnresolved, Refused, BadWords, Fault, Memory, NotBuilt}
 
+-- the exit number of a status
 abbrev pub exit_of : Status → ℕ
 exit_of Done = 0
 exit_of DoneWithUnresolved = 4

@@ -1,8 +1,7 @@
-pub mod Cards
 pub mod Causes
 pub mod Deciding
 pub mod Exits
 pub mod Go
-pub mod Input
+pub mod Linked
+pub mod Links
 pub mod Outcome
-pub mod Ready

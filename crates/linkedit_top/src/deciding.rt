@@ -1,16 +1,17 @@
 //! What the words ask for, decided before anything is printed.
-ghost use Rattle.std.specs.Prelude.{◌≡◌, ◌<◌, [], length, map, slice_index_or, string_bytes};
+ghost use Rattle.std.specs.Prelude.{◌≡◌, map, string_bytes};
+ghost use Rattle.std.specs.List.{list_all};
 ghost use Rattle.le_io.specs.Counts.{NoneFalls, WhereTold};
 ghost use Rattle.command_words.specs.Settings.{text_of};
-ghost use Rattle.linkedit_top.specs.Outcome.{outcome, good_words, built_path, is_built_request, are_built_settings, is_origin, read_input};
+ghost use Rattle.linkedit_top.specs.Outcome.{outcome, good_words, built_path, is_built_request, are_built_settings, is_built_setting, are_built_options, read_input};
 ghost use Rattle.linkedit_top.specs.Deciding.{Decides, HasCause, GoHasCause};
 
 use crate::answer::Answer;
 use crate::going::go;
 use crate::refusing::{bad_words, refused, unbuilt};
 use crate::stop::Stop;
-use command_words::keys::SYSLIN;
-use command_words::{Command, Request, read_words};
+use command_words::keys::{ORIGIN, PARM, SYSLIN};
+use command_words::{Command, Options, Request, has_key, read_words};
 use le_bytes::{Memory, Refusal};
 use le_io::{ReadStop, Store, read_all};
 use std::alloc::Global;
@@ -37,7 +38,13 @@ fn good_words<S: Store>(alloc: Global, request: &Request<'_>, store: &mut S) -> 
     ensures cause { HasCause (S.counts store.old) (S.counts store.new) (map string_bytes request.now.words.now) result }
 {
     match built_path(request) {
-        Some(path) => go_path(alloc, path, request.origin(), store),
+        Some(path) => go_path(
+            alloc,
+            path,
+            request.origin(),
+            request.options().let_on,
+            store,
+        ),
         None => Ok(unbuilt(alloc)?),
     }
 }
@@ -53,44 +60,64 @@ fn built_path<'a>(request: &Request<'a>) -> Option<&'a str>
     }
 }
 
-/// Whether the words are `go` with SYSLIN, and with ORIGIN at most.
+/// Whether the words are `go` with SYSLIN, and with ORIGIN and PARM=LET at most.
 fn is_built_request(request: &Request<'_>) -> bool
     ensures { result ≡ is_built_request (map string_bytes request.now.words.now) }
 {
-    request.command == Command::Go && are_built_settings(request.words)
+    request.command == Command::Go
+        && are_built_settings(request.words)
+        && are_built_options(request.options())
 }
 
+/// Whether every word after the command gives SYSLIN, ORIGIN or PARM.
 fn are_built_settings(words: &[String]) -> bool
     ensures { result ≡ are_built_settings (map string_bytes words.now) }
 {
-    words.len() == 2
-        || words.len() == 3 && (is_origin(word_at(words, 1)) || is_origin(word_at(words, 2)))
+    match words {
+        [] => true,
+        [_, settings @ ..] => are_all_built(settings),
+    }
 }
 
-fn word_at(words: &[String], place: usize) -> &str
-    requires { place < length words.now }
-    ensures { result.now ≡ slice_index_or (map string_bytes words.now) place [] }
+fn are_all_built(settings: &[String]) -> bool
+    ensures { result ≡ list_all is_built_setting (map string_bytes settings.now) }
 {
-    words[place].as_str()
+    for setting in settings {
+        if !is_built_setting(setting.as_str()) {
+            return false;
+        }
+    }
+    true
 }
 
-/// Whether the word gives ORIGIN.
-fn is_origin(word: &str) -> bool
-    ensures { result ≡ is_origin word.now }
+fn is_built_setting(word: &str) -> bool
+    ensures { result ≡ is_built_setting word.now }
 {
-    let bytes = word.as_bytes();
-    bytes.len() >= 7 && &bytes[..7] == b"ORIGIN=".as_slice()
+    has_key(SYSLIN, word) || has_key(ORIGIN, word) || has_key(PARM, word)
+}
+
+/// Whether LET at most is on.
+fn are_built_options(o: Options) -> bool
+    ensures { result ≡ are_built_options o }
+{
+    !(o.map || o.xref || o.ncal || o.xcal || o.ovly || o.sctr || o.dcbs || o.rent)
 }
 
 /// The answer to `go` over the set at `path`.
-fn go_path<S: Store>(alloc: Global, path: &str, origin: u32, store: &mut S) -> Result<Answer, Stop>
-    ensures answer { WhereTold (S.told store.old) (λ files. Decides (read_input (files path.now) origin) result) }
+fn go_path<S: Store>(
+    alloc: Global,
+    path: &str,
+    origin: u32,
+    let_on: bool,
+    store: &mut S,
+) -> Result<Answer, Stop>
+    ensures answer { WhereTold (S.told store.old) (λ files. Decides (read_input (files path.now) origin let_on) result) }
     ensures told { S.told store.new ≡ S.told store.old }
     ensures counts { NoneFalls (S.counts store.old) (S.counts store.new) }
     ensures cause { GoHasCause (S.counts store.old) (S.counts store.new) path.now result }
 {
     match read_all(alloc, store, path) {
-        Ok(bytes) => Ok(go(alloc, &bytes, origin)?),
+        Ok(bytes) => Ok(go(alloc, &bytes, origin, let_on)?),
         Err(ReadStop::Absent) => Ok(refused(alloc, Refusal::SetAbsent(SYSLIN))?),
         Err(ReadStop::TooLong) => Ok(refused(alloc, Refusal::TooLong(SYSLIN))?),
         Err(ReadStop::Failed) => Err(Stop::Read(SYSLIN)),

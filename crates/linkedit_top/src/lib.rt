@@ -2,15 +2,19 @@
 #![tactic(auto)]
 
 mod answer;
-mod cards;
 mod deciding;
+#[cfg(test)]
+mod deck_tests;
 mod going;
-mod input;
-mod reading;
+mod linking;
+#[cfg(test)]
+mod refusal_tests;
 mod refusing;
 mod running;
 mod status;
 mod stop;
+#[cfg(test)]
+mod test_decks;
 #[cfg(test)]
 mod tests;
 mod top;

@@ -2,6 +2,7 @@
 ghost use Rattle.std.specs.Prelude.{◌≡◌, None, Some, IfOk};
 ghost use Rattle.linkedit_top.specs.Go.{refused, unbuilt, unbuilt_card, faulty_card, unbuilt_line, unbuilt_card_line};
 ghost use Rattle.linkedit_top.specs.Outcome.{bad_words};
+ghost use Rattle.linkedit_top.specs.Causes.{IsOwn, IsOwnRefusal};
 
 use crate::answer::Answer;
 use crate::status::Status;
@@ -19,6 +20,7 @@ use std::alloc::Global;
 pub fn refused(alloc: Global, refusal: Refusal) -> Result<Answer, Memory>
     ensures answer { IfOk result (λ answer. answer ≡ refused refusal) }
     ensures status { IfOk result (λ answer. answer.status ≡ Status.Refused refusal) }
+    ensures own { IsOwnRefusal refusal → IfOk result (λ answer. IsOwn answer.status) }
 {
     let text = refusal_text(alloc, &Line::Refused(refusal))?;
     Ok(Answer {

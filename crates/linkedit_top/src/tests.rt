@@ -1,7 +1,7 @@
 //! The command over memory: what is printed and how it ends, to the letter.
+use crate::test_decks::{end_card, sink, store, words};
 use crate::{Fault, Status, linkedit};
 use command_words::keys::SYSLIN;
-use le_io::{MemSink, MemStore};
 use std::alloc::Global;
 use std::test::Fail;
 
@@ -41,43 +41,14 @@ const COMMENT: &[u8] = b"\x5c";
 
 const UNKNOWN: &[u8] = b"\x5b";
 
-fn push_card(deck: &mut Vec<u8>, text: &[u8]) -> Result<(), Fail> {
-    let mut card = [0x40u8; 80];
-    let length = text.len().min(80);
-    card[..length].copy_from_slice(&text[..length]);
-    deck.extend_from_slice(&card)?;
-    Ok(())
-}
-
-fn deck(alloc: Global, cards: &[&[u8]]) -> Result<Vec<u8>, Fail> {
+/// The cards, each filled with blanks.
+fn deck(alloc: Global, texts: &[&[u8]]) -> Result<Vec<u8>, Fail> {
     let mut deck = Vec::new(alloc);
-    for card in cards {
-        push_card(&mut deck, card)?;
+    for text in texts {
+        deck.extend_from_slice(text)?;
+        end_card(&mut deck)?;
     }
     Ok(deck)
-}
-
-fn words(alloc: Global, line: &str) -> Result<Vec<String>, Fail> {
-    let mut words = Vec::new(alloc);
-    for word in line.split_whitespace() {
-        words.push(String::from_str(alloc, word)?)?;
-    }
-    Ok(words)
-}
-
-/// The store with SYSLIN at the path `d`, whose call with this number fails.
-fn store(alloc: Global, syslin: Vec<u8>, fail: u64) -> Result<MemStore, Fail> {
-    let mut files = Vec::new(alloc);
-    files.push((String::from_str(alloc, "d")?, syslin))?;
-    let mut fails = Vec::new(alloc);
-    fails.push(fail)?;
-    Ok(MemStore::new(alloc, files, fails))
-}
-
-fn sink(alloc: Global, most: usize, fail: u64) -> Result<MemSink, Fail> {
-    let mut fails = Vec::new(alloc);
-    fails.push(fail)?;
-    Ok(MemSink::new(alloc, fails, most))
 }
 
 #[test]
@@ -131,6 +102,11 @@ fn words_that_are_bad_or_not_built_have_their_line_and_exit_number(
         ("go SYSLIN=d AREAS=1-2 ORIGIN=0", "WORDS 4 EXCLUDED\n", 12),
         ("link SYSLIN=d SYSLMOD=l", "REFUSED NOTBUILT\n", 8),
         ("go SYSLIN=d MEMBER=M", "REFUSED NOTBUILT\n", 8),
+        ("go SYSLIN=d AREAS=0-100", "REFUSED NOTBUILT\n", 8),
+        ("go SYSLIN=d SYSLIB=l PARM=LET", "REFUSED NOTBUILT\n", 8),
+        ("go SYSLIN=d PARM=LET,MAP", "REFUSED NOTBUILT\n", 8),
+        ("go SYSLIN=d PARM=NCAL", "REFUSED NOTBUILT\n", 8),
+        ("go SYSLIN=d PARM=LET,", "WORDS 3 BADVALUE\n", 12),
         ("go SYSLIN=e", "REFUSED SET SYSLIN ABSENT\n", 8),
     ];
     for (line, text, exit) in cases {
@@ -146,7 +122,7 @@ fn words_that_are_bad_or_not_built_have_their_line_and_exit_number(
 #[test]
 fn cards_that_are_refused_have_their_line(rt: HostRuntime) -> Result<(), Fail> {
     let alloc = rt.alloc();
-    let cases: [(&[&[u8]], &str); 9] = [
+    let cases: [(&[&[u8]], &str); 8] = [
         (&[COMMENT], "REFUSED NOSECTION\n"),
         (&[COMMENT, STATEMENT], "REFUSED CARD SYSLIN 2 NOTBUILT\n"),
         (&[UNKNOWN], "REFUSED CARD SYSLIN 1 UNKNOWNCARD\n"),
@@ -158,7 +134,6 @@ fn cards_that_are_refused_have_their_line(rt: HostRuntime) -> Result<(), Fail> {
             &[ESD, RLD_TWICE],
             "REFUSED CARD SYSLIN 2 CONSTANTSOVERLAP\n",
         ),
-        (&[ESD, END, ESD, END], "REFUSED CARD SYSLIN 3 NOTBUILT\n"),
     ];
     for (cards, text) in cases {
         let mut store = store(alloc, deck(alloc, cards)?, 0)?;

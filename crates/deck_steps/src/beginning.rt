@@ -1,0 +1,26 @@
+//! What a card between decks begins.
+ghost use Rattle.std.specs.Prelude.{◌≡◌};
+ghost use Rattle.obj_cards.specs.Cards.{card_of};
+ghost use Rattle.deck_steps.specs.Decks.{begun_by};
+
+use obj_cards::{Card, read_card};
+
+/// What a card between decks begins.
+#[derive(Clone, Copy, Debug, PartialEq, Eq)]
+pub(crate) enum Beginning {
+    /// Nothing: it is a comment.
+    Nothing,
+    AStatement,
+    /// A deck: any other card, a faulty one too.
+    ADeck,
+}
+
+pub(crate) fn begun_by(card: &[u8; 80]) -> Beginning
+    ensures { result ≡ begun_by (card_of card.now) }
+{
+    match read_card(card) {
+        Ok(Card::Comment) => Beginning::Nothing,
+        Ok(Card::Statement(_)) => Beginning::AStatement,
+        _ => Beginning::ADeck,
+    }
+}

@@ -1,0 +1,12 @@
+use Rattle.std.proofs.Common.{◌∙◌, ap}
+use Rattle.std.specs.List.{list_any}
+use Rattle.linking_model.specs.Kept.{symbol_eq}
+use Rattle.esd_index.specs.Keys.{as_symbol}
+use Rattle.esd_index.specs.Marked.{Marked}
+use Rattle.esd_index.proofs.Lists.{any_map}
+use Rattle.esd_index.proofs.symbols.Symbols.has.Goals as goal
+
+pub returns : goal.returns
+returns c =
+    c.contains.ensures ∙ any_map c.args.key.now c.self.inside.keys.keys
+    ∙ ap (λ (v : Marked). list_any (symbol_eq (as_symbol c.args.key.now)) v.all) c.self.view_is

@@ -1,0 +1,19 @@
+-- The constants at places.
+use Rattle.std.specs.Prelude.{List, Option, Some, None, filter_map, slice_get}
+use Rattle.sym_mod.specs.declared.module.Item.{Item}
+use Rattle.sym_mod.specs.declared.module.SymConst.{SymConst}
+use Rattle.esd_index.specs.declared.constants.Spot.{Spot}
+use Rattle.esd_index.specs.Contents.{Contents}
+use Rattle.esd_index.specs.Steps.{with_constant}
+
+-- the constants at these places of the list
+abbrev pub constants_at : List SymConst → List Spot → List SymConst
+constants_at constants spots = filter_map (λ s. slice_get constants s.place) spots
+
+-- the constant at a place, where there is one
+unfoldable pub with_spot : List Item → List SymConst → Contents → Spot → Contents
+with_spot items constants c s = with_found (slice_get constants s.place)
+  where
+    with_found : Option SymConst → Contents
+    with_found (Some x) = with_constant items c x
+    with_found None = c

@@ -1,0 +1,17 @@
+-- Spots of kept constants, each put in its place.
+use Rattle.std.specs.Prelude.{ℕ, ◌+◌, Bool, if◌then◌else◌, List, [], ◌∷◌}
+use Rattle.std.specs.BTreeSet.{insert_key}
+use Rattle.sym_mod.specs.declared.module.SymConst.{SymConst}
+use Rattle.esd_index.specs.contracts.constants.SpotOrd.TheImpl.{cmp-value}
+use Rattle.esd_index.specs.declared.constants.Spot.{Spot}
+use Rattle.esd_index.specs.Steps.{flag_at}
+
+-- where a constant stands: its item, its offset and its place in the list
+abbrev pub spot : ℕ → SymConst → Spot
+spot k c = record { item = c.item; offset = c.offset; place = k }
+
+-- the spots of the constants that stand in marked items, in order, where they are numbered from k on
+abbrev pub sorted_from : List Bool → ℕ → List SymConst → List Spot
+sorted_from kept k [] = []
+sorted_from kept k (c ∷ cs) =
+    if flag_at kept c.item then insert_key (cmp-value).it (sorted_from kept (k + 1) cs) (spot k c) else sorted_from kept (k + 1) cs

@@ -1,0 +1,173 @@
+//! What the modules that were read say of each symbol.
+ghost use Rattle.std.specs.Prelude.{◌≡◌, ◌&&◌, ◌||◌, not, [], ◌∷◌, is_some, option_map, OnOk};
+ghost use Rattle.std.specs.List.{list_any};
+ghost use Rattle.sym_mod.specs.Kinds.{is_sd, kind_of};
+ghost use Rattle.linking_model.specs.Kept.{symbol_eq, ByName, name_in};
+ghost use Rattle.esd_index.specs.Keys.{as_symbol, sight};
+ghost use Rattle.esd_index.specs.Contents.{now_of, marked_of};
+ghost use Rattle.esd_index.specs.Steps.{with_sight, label_meant, with_control, with_target, clashes_over, is_kept_over};
+
+use crate::key::{Key, Sighted, section_name};
+use crate::symbols::Symbols;
+use std::alloc::{AllocError, Global};
+use sym_mod::{Item, ItemKind, SymTarget, SymTerm};
+
+/// What the modules that were read say of each symbol, and what those said that were read when it was
+/// last marked.
+#[derive(Drop)]
+pub struct Index {
+    /// In order of first appearance.
+    pub symbols: Symbols,
+    /// In the order of the first section item.
+    pub sections: Symbols,
+    pub registers: Symbols,
+    /// The names of SD items.
+    pub controls: Symbols,
+    /// The names of labels whose section is kept.
+    pub labels: Symbols,
+    /// The names of references that are not weak, and of those that are.
+    pub strong: Symbols,
+    pub weak: Symbols,
+    /// The names to which kept constants refer, by the name and by a label item.
+    pub named: Symbols,
+    pub labelled: Symbols,
+}
+
+impl Index {
+    /// Of no modules. Takes no memory.
+    pub fn new(alloc: Global) -> Index
+        ensures now { now_of result ≡ record { symbols = []; sections = []; registers = []; controls = []; labels = []; strong = []; weak = []; named = []; labelled = [] } }
+        ensures marked { marked_of result ≡ now_of result }
+    {
+        Index {
+            symbols: Symbols::new(alloc),
+            sections: Symbols::new(alloc),
+            registers: Symbols::new(alloc),
+            controls: Symbols::new(alloc),
+            labels: Symbols::new(alloc),
+            strong: Symbols::new(alloc),
+            weak: Symbols::new(alloc),
+            named: Symbols::new(alloc),
+            labelled: Symbols::new(alloc),
+        }
+    }
+
+    /// Marks what it says.
+    pub fn mark(&mut self)
+        ensures now { now_of self.new ≡ now_of self.old }
+        ensures marked { marked_of self.new ≡ now_of self.old }
+    {
+        self.symbols.mark();
+        self.sections.mark();
+        self.registers.mark();
+        self.controls.mark();
+        self.labels.mark();
+        self.strong.mark();
+        self.weak.mark();
+        self.named.mark();
+        self.labelled.mark();
+    }
+
+    /// Says again what it said at the mark.
+    pub fn go_back(&mut self)
+        ensures now { now_of self.new ≡ marked_of self.old }
+        ensures marked { marked_of self.new ≡ marked_of self.old }
+    {
+        self.symbols.go_back();
+        self.sections.go_back();
+        self.registers.go_back();
+        self.controls.go_back();
+        self.labels.go_back();
+        self.strong.go_back();
+        self.weak.go_back();
+        self.named.go_back();
+        self.labelled.go_back();
+    }
+
+    /// Whether a section is kept, where the SD items before it are noted.
+    pub(crate) fn keeps(&self, x: &Item) -> bool
+        ensures { result ≡ is_kept_over (now_of self.now).controls x.now (kind_of x.now) }
+    {
+        match x.kind_kept() {
+            ItemKind::Sd => !self.controls.has(&Key::Named(x.name)),
+            ItemKind::Pc => true,
+            ItemKind::Cm => true,
+            _ => false,
+        }
+    }
+
+    pub(crate) fn note_control(&mut self, x: &Item) -> Result<(), AllocError>
+        ensures noted { OnOk result (now_of self.new ≡ with_control (now_of self.old) x.now) }
+        ensures marked { marked_of self.new ≡ marked_of self.old }
+    {
+        self.controls.note(section_name(x))
+    }
+
+    /// Whether the item would give its name a second meaning.
+    pub(crate) fn clashes(&self, kept: &[bool], x: &Sighted) -> bool
+        ensures { result ≡ clashes_over kept.now (now_of self.now) (sight x.now) }
+    {
+        let name = Key::Named(x.item.name);
+        (x.is_kept_section(kept) && self.labels.has(&name))
+            || (x.is_kept_label(kept) && (self.labels.has(&name) || self.sections.has(&name)))
+    }
+
+    #[tactic(auto, unfolding(crate::specs::Steps::with_sight))]
+    pub(crate) fn note_item(&mut self, kept: &[bool], x: &Sighted) -> Result<(), AllocError>
+        ensures noted { OnOk result (now_of self.new ≡ with_sight kept.now (now_of self.old) (sight x.now)) }
+        ensures marked { marked_of self.new ≡ marked_of self.old }
+    {
+        self.symbols.note(x.symbol())?;
+        self.sections.note(x.section_symbol())?;
+        self.registers.note(x.register())?;
+        self.labels.note(x.kept_label(kept))?;
+        self.strong.note(x.reference())?;
+        self.weak.note(x.weak_reference())
+    }
+
+    #[tactic(auto, unfolding(crate::specs::Steps::with_target))]
+    pub(crate) fn note_target(&mut self, items: &[Item], t: &SymTerm) -> Result<(), AllocError>
+        ensures noted { OnOk result (now_of self.new ≡ with_target items.now (now_of self.old) t.now) }
+        ensures marked { marked_of self.new ≡ marked_of self.old }
+    {
+        let name = target_name(t.target);
+        self.symbols.note(name)?;
+        self.named.note(name)?;
+        self.labelled.note(label_meant(items, t.target))
+    }
+}
+
+/// The name by which a target refers.
+fn target_name(target: SymTarget) -> Option<Key>
+    ensures { option_map as_symbol result ≡ option_map ByName (name_in target) }
+{
+    match target {
+        SymTarget::Named(name) => Some(Key::Named(name)),
+        _ => None,
+    }
+}
+
+/// The name of the label item to which a target refers.
+fn label_meant(items: &[Item], target: SymTarget) -> Option<Key>
+    ensures { option_map as_symbol result ≡ label_meant items.now target }
+{
+    match target {
+        SymTarget::Own(n) => label_name(items, n as usize),
+        _ => None,
+    }
+}
+
+fn label_name(items: &[Item], n: usize) -> Option<Key>
+    ensures { option_map as_symbol result ≡ label_meant items.now (SymTarget.Own n) }
+{
+    match items.get(n) {
+        Some(x) => {
+            if x.kind == ItemKind::Label {
+                Some(Key::Named(x.name))
+            } else {
+                None
+            }
+        }
+        None => None,
+    }
+}

@@ -1,0 +1,101 @@
+//! A growing list of symbols without repeats.
+ghost use Rattle.std.specs.Prelude.{◌≡◌, ◌<◌, ◌+◌, ◌≤◌, [], ◌∷◌, ◌^◌, length, map, position, option_map, OnOk, IfSome};
+ghost use Rattle.std.specs.List.{list_any};
+ghost use Rattle.linking_model.specs.Kept.{symbol_eq};
+ghost use Rattle.esd_index.specs.Keys.{as_symbol};
+ghost use Rattle.esd_index.specs.Marked.{with_some};
+
+use crate::key::Key;
+use indexmap::IndexSet;
+use std::alloc::{AllocError, Global};
+use std::marker::Model;
+
+/// Symbols in the order in which they were noted. Contracts see them, and those that stood there at
+/// the last mark.
+#[derive(Drop)]
+pub struct Symbols {
+    keys: IndexSet<Key>,
+    mark: usize,
+}
+
+impl Model for Symbols {
+    ghost use Rattle.std.specs.Prelude.{◌≤◌, length, map, take};
+    ghost use Rattle.esd_index.specs.Keys.{as_symbol};
+    ghost use Rattle.esd_index.specs.Marked.{Marked};
+
+    ghost Value = { Marked };
+
+    ghost view = { λ s. record { all = map as_symbol s.keys.keys; marked = take s.mark (map as_symbol s.keys.keys) } };
+
+    ghost invariant = { λ s. s.mark ≤ length s.keys.keys };
+}
+
+impl Symbols {
+    /// No symbols. Takes no memory.
+    pub fn new(alloc: Global) -> Symbols
+        ensures { result ≡ record { all = []; marked = [] } }
+    {
+        Symbols {
+            keys: IndexSet::new(alloc),
+            mark: 0,
+        }
+    }
+
+    /// Puts a symbol at the end, where it is not there yet. What was marked stays.
+    pub fn note(&mut self, key: Option<Key>) -> Result<(), AllocError>
+        ensures noted { OnOk result (self.new.all ≡ with_some self.old.all (option_map as_symbol key)) }
+        ensures marked { self.new.marked ≡ self.old.marked }
+    {
+        match key {
+            None => Ok(()),
+            Some(key) => {
+                self.keys.insert(key)?;
+                Ok(())
+            }
+        }
+    }
+
+    /// Marks what is there.
+    pub fn mark(&mut self)
+        ensures { self.new ≡ record { all = self.old.all; marked = self.old.all } }
+    {
+        self.mark = self.keys.len();
+    }
+
+    /// Takes away what came after the mark.
+    pub fn go_back(&mut self)
+        ensures { self.new ≡ record { all = self.old.marked; marked = self.old.marked } }
+    {
+        self.keys.truncate(self.mark);
+    }
+
+    /// Whether the symbol is there.
+    pub fn has(&self, key: &Key) -> bool
+        ensures { result ≡ list_any (symbol_eq (as_symbol key.now)) self.now.all }
+    {
+        self.keys.contains(key)
+    }
+
+    /// The place of the symbol, from 0; None exactly where it is not there.
+    pub fn place(&self, key: &Key) -> Option<usize>
+        ensures place { result ≡ position (symbol_eq (as_symbol key.now)) self.now.all }
+        ensures within { IfSome result (λ place. place < length self.now.all) }
+    {
+        self.keys.get_index_of(key)
+    }
+
+    /// How many symbols there are.
+    pub fn len(&self) -> usize
+        ensures len { result ≡ length self.now.all }
+        ensures small { result < 2 ^ 63 }
+    {
+        self.keys.len()
+    }
+
+    /// The symbols, in order.
+    pub fn keys(&self) -> &[Key]
+        ensures { map as_symbol result.now ≡ self.now.all }
+    {
+        self.keys.as_slice()
+    }
+}

@@ -1,0 +1,16 @@
+use Rattle.std.proofs.Common.{◌∙◌, ap, None, fold, option_map}
+use Rattle.std.specs.HashMap.{get}
+use Rattle.le_bytes.specs.Names.{name_eq}
+use Rattle.esd_index.specs.Keys.{sight}
+use Rattle.esd_index.specs.Contents.{now_of}
+use Rattle.esd_merge.specs.Gathered.{no_area, area_in, control_step, area_step}
+use Rattle.esd_merge.proofs.Gather.{if_ok}
+use Rattle.esd_merge.proofs.Parts.{sections_are}
+use Rattle.esd_merge.proofs.program.program_sections.Goals as goal
+
+pub returns : goal.returns
+returns c =
+    if_ok c.sections.result _ _ c.sections.ensures (λ list e.
+    e ∙ sections_are (now_of c.args.index.now) c.args.reads.now (λ y. option_map sight (get name_eq c.in_ok-controls.controls y)) (λ y. area_in (get name_eq c.in_ok-areas.areas y)) c.requires.holds
+    (λ y. c.in_ok-controls.ensures y ∙ ap (fold (control_step y) None) c.requires.seen)
+    (λ y. c.in_ok-areas.ensures y ∙ ap (fold (area_step y) no_area) c.requires.seen))

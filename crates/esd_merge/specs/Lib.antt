@@ -1,0 +1,12 @@
+pub mod Added
+pub mod Entered
+pub mod Gathered
+pub mod Held
+pub mod Indexed
+pub mod Inside
+pub mod Left
+pub mod Listed
+pub mod Looked
+pub mod Numbered
+pub mod Rest
+pub mod Whole

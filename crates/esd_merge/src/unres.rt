@@ -1,0 +1,91 @@
+//! The unresolved names, one after the other, and the numbers of labels.
+ghost use Rattle.std.specs.Prelude.{◌≡◌, ◌≤◌, filter_map, length, option_map};
+ghost use Rattle.esd_index.specs.Keys.{as_symbol};
+ghost use Rattle.esd_index.specs.Contents.{now_of};
+ghost use Rattle.esd_merge.specs.Left.{target_of};
+ghost use Rattle.esd_merge.specs.Looked.{IsSmall};
+ghost use Rattle.esd_merge.specs.Rest.{names_left, YieldsName, has_label_by, label_from};
+
+use crate::defined::Defined;
+use crate::listing::{has, unknown};
+use esd_index::{Index, Key};
+use le_bytes::Name;
+
+/// The unresolved names in order of first appearance, each with whether it is weak.
+#[derive(Drop)]
+pub struct Unres<'a> {
+    index: &'a Index,
+    rest: &'a [Key],
+}
+
+impl<'a> Unres<'a> {
+    ghost use Rattle.std.specs.Prelude.{◌≡◌};
+    ghost use Rattle.esd_index.specs.Contents.{now_of};
+    ghost use Rattle.esd_merge.specs.Rest.{names_left, names_in, YieldsName};
+
+    /// Those of all modules.
+    pub(crate) fn new(index: &'a Index) -> Unres<'a>
+        ensures { names_left result ≡ names_in (now_of index.now) (now_of index.now).symbols }
+    {
+        Unres {
+            index,
+            rest: index.symbols.keys(),
+        }
+    }
+}
+
+impl Unres<'_> {
+    /// The next name, if one is left.
+    fn next_name(&mut self) -> Option<(Name, bool)>
+        ensures { YieldsName self.old result self.new }
+    {
+        while let [key, rest @ ..] = self.rest {
+            self.rest = rest;
+            if let Some(x) = unknown(self.index, key) {
+                return Some((x.name, x.weak));
+            }
+        }
+        None
+    }
+}
+
+impl Iterator for Unres<'_> {
+    ghost use Rattle.std.specs.Iterator.{YieldsFirst, item_count};
+    ghost use Rattle.esd_merge.specs.Rest.{names_left};
+
+    type Item = (Name, bool);
+
+    ghost next_gives = { YieldsFirst names_left };
+
+    ghost remaining = { item_count names_left };
+
+    fn next(&mut self) -> Option<(Name, bool)> {
+        self.next_name()
+    }
+}
+
+fn has_label(index: &Index, key: &Key) -> bool
+    ensures { result ≡ has_label_by (now_of index.now) (as_symbol key.now) }
+{
+    match key {
+        Key::Named(name) => has(&index.labels, *name),
+        Key::Private(..) => false,
+    }
+}
+
+/// The label of a name: its place among the symbols that have a label.
+pub(crate) fn label_number(index: &Index, name: &Name) -> Option<Defined>
+    requires { IsSmall (now_of index.now) }
+    ensures { target_of result ≡ label_from (now_of index.now) name.now 0 (now_of index.now).symbols }
+{
+    let mut number: u32 = 0;
+    for key in index.symbols.keys() {
+        if has_label(index, key) {
+            if *key == Key::Named(*name) {
+                return Some(Defined::Label(number));
+            }
+            number += 1;
+        }
+    }
+    None
+}

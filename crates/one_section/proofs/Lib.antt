@@ -1,5 +1,0 @@
-pub mod Laid
-pub mod Placed
-pub mod Ready
-pub mod Sums
-pub mod Writing
