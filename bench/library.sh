@@ -1,17 +1,18 @@
 #!/usr/bin/env bash
 # Times reading a library image, looking each entry up, stowing one member more, and writing the image, on images of three shapes: few long
-# records in 64 MiB, 20,000 members, and as many empty records as three bytes count. It runs a small program in a copy of three crates.
+# records in 64 MiB, 20,000 members, and as many empty records as three bytes count. It runs a small program in a copy of four crates.
 set -eu
 top=$(cd "$(dirname "$0")/.." && pwd)
 copy=$(mktemp -d)
 trap 'rm -rf "$copy"' EXIT
 mkdir -p "$copy/crates/library_bench/src"
-cp -r "$top/crates/le_bytes" "$top/crates/pds_lib" "$top/crates/pds_image" "$copy/crates/"
+cp -r "$top/crates/le_bytes" "$top/crates/pds_directory" "$top/crates/pds_lib" "$top/crates/pds_image" "$copy/crates/"
 cat > "$copy/crates.txt" <<'TXT'
 le_bytes: byteorder
-pds_lib: le_bytes byteorder
-pds_image: pds_lib le_bytes byteorder
-library_bench: pds_image pds_lib le_bytes
+pds_directory: le_bytes byteorder
+pds_lib: pds_directory le_bytes
+pds_image: pds_lib pds_directory le_bytes byteorder
+library_bench: pds_image pds_lib pds_directory le_bytes
 TXT
 cat > "$copy/crates/library_bench/src/main.rt" <<'RT'
 //! Times the calls of a library on the image whose path is the first argument.

@@ -6,7 +6,7 @@ use Rattle.le_bytes.specs.declared.record_what.EventWhat.{EventWhat}
 use Rattle.sym_mod.specs.declared.module.Kind.TheVariants.{Address, Branch}
 use Rattle.sym_mod.specs.declared.module.ItemKind.TheVariants.{Pc}
 use Rattle.sym_mod.specs.declared.module.SymTarget.TheVariants.{Own}
-use Rattle.pds_lib.specs.declared.entry.Entry.{Entry}
+use Rattle.pds_directory.specs.declared.entry.Entry.{Entry}
 use Rattle.pds_lib.specs.declared.member.Member.{Member}
 use Rattle.pds_lib.specs.Stow.{main_entry}
 use Rattle.linking_model.specs.Kept.{Read}

@@ -6,7 +6,7 @@ use Rattle.std.specs.Option.{option_or, option_map_or}
 use Rattle.std.specs.Str.{bytes_eq}
 use Rattle.le_bytes.specs.declared.record_what.RecWhat.{RecWhat}
 use Rattle.le_bytes.specs.declared.record_what.RecWhat.TheVariants.{BadLength, BadFlag, BadOrder, BadEsdid, SectionOutside, BadScatter, TextOutside, ConstantOutside, ConstantsOverlap}
-use Rattle.pds_lib.specs.declared.entry.Entry.{Entry}
+use Rattle.pds_directory.specs.declared.entry.Entry.{Entry}
 use Rattle.load_recs.specs.Faults.{what_of}
 use Rattle.load_recs.specs.Items.{symbols_of, scatters_of, translations_of, notes_of}
 use Rattle.load_recs.specs.Relocations.{rlds_of}

@@ -1,7 +1,7 @@
 -- A member whose sections have addresses, and its storage before any event. That a fetch of an overlay member brings in
 -- the root alone follows GC28-6538; all else is this project's profile.
 use Rattle.std.specs.Prelude.{ℕ, List}
-use Rattle.pds_lib.specs.declared.entry.Entry.{Entry}
+use Rattle.pds_directory.specs.declared.entry.Entry.{Entry}
 use Rattle.linking_model.specs.Run.{Storage}
 use Rattle.member_model.specs.Facts.{Facts, no_facts, walked}
 use Rattle.member_model.specs.Loaded.{Addresses, in_block, in_places, loaded, moved}

@@ -3,7 +3,7 @@ use Rattle.std.specs.Prelude.{◌≡◌, ℕ, ◌+◌, Bool, false, not, ◌&&�
 use Rattle.std.specs.Option.{option_or, option_map_or}
 use Rattle.le_bytes.specs.declared.record_what.RecWhat.{RecWhat}
 use Rattle.le_bytes.specs.declared.record_what.RecWhat.TheVariants.{BadEntryPoint, NoEnd}
-use Rattle.pds_lib.specs.declared.entry.Entry.{Entry}
+use Rattle.pds_directory.specs.declared.entry.Entry.{Entry}
 use Rattle.load_recs.specs.Faults.{what_of}
 use Rattle.load_recs.specs.Reading.{own_fault}
 use Rattle.load_recs.specs.declared.items.SymbolItem.{SymbolItem}

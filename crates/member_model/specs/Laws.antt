@@ -2,7 +2,7 @@
 use Rattle.std.specs.Prelude.{◌≡◌, ℕ, ◌+◌, ◌≤◌, List, [], ◌∷◌, ◌++◌, fold, length, Some, None, option_map}
 use Rattle.std.specs.Option.{option_or}
 use Rattle.le_bytes.specs.declared.record_what.EventWhat.{EventWhat}
-use Rattle.pds_lib.specs.declared.entry.Entry.{Entry}
+use Rattle.pds_directory.specs.declared.entry.Entry.{Entry}
 use Rattle.load_recs.specs.declared.items.RldItem.{RldItem}
 use Rattle.linking_model.specs.Run.{Event}
 use Rattle.member_model.specs.Facts.{Facts, facts, seen}

@@ -17,7 +17,7 @@ use Rattle.sym_mod.specs.declared.module.SymTarget.TheVariants.{Own, Named, Regi
 use Rattle.sym_mod.specs.declared.module.SymEntry.{SymEntry}
 use Rattle.sym_mod.specs.declared.module.SymEntry.TheVariants.{None as NoEntry, At}
 use Rattle.sym_mod.specs.declared.module.SymModule.{SymModule}
-use Rattle.pds_lib.specs.declared.entry.Entry.{Entry}
+use Rattle.pds_directory.specs.declared.entry.Entry.{Entry}
 use Rattle.load_recs.specs.declared.items.SymbolKind.{SymbolKind}
 use Rattle.load_recs.specs.declared.items.SymbolKind.TheVariants.{Sd, Lr, Pc, Cm, Pr, Null, Wx}
 use Rattle.load_recs.specs.declared.items.SymbolItem.{SymbolItem}

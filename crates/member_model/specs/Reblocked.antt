@@ -3,7 +3,7 @@
 -- profile).
 use Rattle.std.specs.Prelude.{ℕ, ◌+◌, ◌-◌, ◌%◌, Bool, true, false, not, ◌&&◌, ◌==◌, if◌then◌else◌, List, [], ◌∷◌, ◌++◌, map, filter, flat_map, length, take, drop, take_while}
 use Rattle.std.specs.List.{range_with_len, enumerate_from}
-use Rattle.pds_lib.specs.declared.entry.Entry.{Entry}
+use Rattle.pds_directory.specs.declared.entry.Entry.{Entry}
 use Rattle.load_recs.specs.ItemBytes.{note_bytes}
 use Rattle.load_recs.specs.Items.{notes_of}
 use Rattle.load_recs.specs.Records.{Record, SymbolRecord, ScatterRecord, TranslationRecord, NoteRecord, rec_bytes}

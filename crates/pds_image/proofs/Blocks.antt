@@ -1,7 +1,7 @@
 -- The blocks of a directory, entry by entry.
 use Rattle.std.proofs.Common.{◌≡◌, ℕ, ◌≤◌, List, [], ◌∷◌, ◌++◌, length, drop, map, refl, sym, ap, ◌∙◌}
 use Rattle.std.proofs.lemmas.List.{drop_all}
-use Rattle.pds_lib.specs.declared.entry.Entry.{Entry}
+use Rattle.pds_directory.specs.declared.entry.Entry.{Entry}
 use Rattle.pds_lib.specs.Contents.{Contents, entries_of}
 use Rattle.pds_image.specs.Spelling.{block_bytes, blocks_of, closing}
 use Rattle.pds_image.specs.Image.{spelled_entry, directory_bytes}

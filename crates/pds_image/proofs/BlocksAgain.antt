@@ -10,14 +10,14 @@ use Rattle.std.proofs.Math.Seq.{drop-append_seam, take-append_seam}
 use Rattle.byteorder.specs.Endian.{big_number}
 use Rattle.byteorder.specs.Numbers.{big_number-reads_back}
 use Rattle.le_bytes.specs.declared.library_fault.LibFault.{LibFault}
-use Rattle.pds_lib.specs.declared.kinds.LibKind.{LibKind}
-use Rattle.pds_lib.specs.declared.kinds.LibKind.TheVariants.{Cards, Modules}
-use Rattle.pds_lib.specs.declared.entry.Entry.{Entry}
-use Rattle.pds_lib.specs.declared.entry.Listed.{Listed}
-use Rattle.pds_lib.specs.declared.header.Head.{Head}
-use Rattle.pds_lib.specs.Parts.{number, part, is_below}
-use Rattle.pds_lib.specs.Order.{ascends_after}
-use Rattle.pds_lib.specs.Directory.{entry_length, is_above, entry_at, entries_from, block_at, block_from, blocks_from}
+use Rattle.pds_directory.specs.declared.kinds.LibKind.{LibKind}
+use Rattle.pds_directory.specs.declared.kinds.LibKind.TheVariants.{Cards, Modules}
+use Rattle.pds_directory.specs.declared.entry.Entry.{Entry}
+use Rattle.pds_directory.specs.declared.entry.Listed.{Listed}
+use Rattle.pds_directory.specs.declared.header.Head.{Head}
+use Rattle.pds_directory.specs.Parts.{number, part, is_below}
+use Rattle.pds_directory.specs.Order.{ascends_after}
+use Rattle.pds_directory.specs.Directory.{entry_length, is_above, entry_at, entries_from, block_at, block_from, blocks_from}
 use Rattle.pds_lib.specs.Contents.{Held, held_name}
 use Rattle.pds_lib.specs.Sound.{HasData}
 use Rattle.pds_image.specs.Spelling.{number_bytes, data_bytes, entry_bytes, closing, block_bytes, blocks_of}

@@ -6,10 +6,10 @@ use Rattle.std.specs.Prelude.{slice_index_or, replicate}
 use Rattle.std.proofs.lemmas.List.{take_more, drop_all, length-replicate}
 use Rattle.std.proofs.lemmas.Grind.{flat_map-append}
 use Rattle.std.proofs.lemmas.List.Sums.{sum_by-cons}
-use Rattle.pds_lib.specs.declared.kinds.Version.{Version}
-use Rattle.pds_lib.specs.declared.kinds.Version.TheVariants.{One, Two}
-use Rattle.pds_lib.specs.declared.entry.Entry.{Entry}
-use Rattle.pds_lib.specs.Places.{width}
+use Rattle.pds_directory.specs.declared.kinds.Version.{Version}
+use Rattle.pds_directory.specs.declared.kinds.Version.TheVariants.{One, Two}
+use Rattle.pds_directory.specs.declared.entry.Entry.{Entry}
+use Rattle.pds_directory.specs.Places.{width}
 use Rattle.pds_lib.specs.Contents.{Contents, entries_of, records_of}
 use Rattle.pds_image.specs.Spelling.{number_bytes, record_bytes, block_bytes, blocks_of, closing}
 use Rattle.pds_image.specs.Image.{added, records_in, spelled_entry, body_bytes, directory_bytes, header_bytes, written}

@@ -8,14 +8,14 @@ use Rattle.std.proofs.lemmas.Bool.Decides.{nat_tests}
 use Rattle.byteorder.specs.Endian.{big_from}
 use Rattle.byteorder.specs.Numbers.{big_number-reads_back}
 use Rattle.le_bytes.specs.declared.name.Name.{Name}
-use Rattle.pds_lib.specs.declared.kinds.LibKind.{LibKind}
-use Rattle.pds_lib.specs.declared.kinds.LibKind.TheVariants.{Cards, Modules}
-use Rattle.pds_lib.specs.declared.kinds.Version.{Version}
-use Rattle.pds_lib.specs.declared.entry.Entry.{Entry}
-use Rattle.pds_lib.specs.declared.entry.Listed.{Listed}
-use Rattle.pds_lib.specs.declared.header.Head.{Head}
-use Rattle.pds_lib.specs.Parts.{number, part}
-use Rattle.pds_lib.specs.Directory.{data_length, entry_length, entry_fits, is_last, last_name, is_above, has_size, is_good, data_of, listed_of, entry_at}
+use Rattle.pds_directory.specs.declared.kinds.LibKind.{LibKind}
+use Rattle.pds_directory.specs.declared.kinds.LibKind.TheVariants.{Cards, Modules}
+use Rattle.pds_directory.specs.declared.kinds.Version.{Version}
+use Rattle.pds_directory.specs.declared.entry.Entry.{Entry}
+use Rattle.pds_directory.specs.declared.entry.Listed.{Listed}
+use Rattle.pds_directory.specs.declared.header.Head.{Head}
+use Rattle.pds_directory.specs.Parts.{number, part}
+use Rattle.pds_directory.specs.Directory.{data_length, entry_length, entry_fits, is_last, last_name, is_above, has_size, is_good, data_of, listed_of, entry_at}
 use Rattle.pds_lib.specs.Sound.{HasData}
 use Rattle.pds_image.specs.Spelling.{number_bytes, data_bytes, flag_byte, entry_bytes, closing}
 

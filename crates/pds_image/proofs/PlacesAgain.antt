@@ -10,9 +10,9 @@ use Rattle.std.proofs.lemmas.Grind.{flat_map-append}
 use Rattle.std.proofs.lemmas.List.Sums.{sum_by-cons}
 use Rattle.le_bytes.specs.declared.name.Name.{Name}
 use Rattle.le_bytes.specs.Names.{name_eq}
-use Rattle.pds_lib.specs.declared.entry.Entry.{Entry}
-use Rattle.pds_lib.specs.Parts.{is_below}
-use Rattle.pds_lib.specs.Order.{ascends, ascends_after}
+use Rattle.pds_directory.specs.declared.entry.Entry.{Entry}
+use Rattle.pds_directory.specs.Parts.{is_below}
+use Rattle.pds_directory.specs.Order.{ascends, ascends_after}
 use Rattle.pds_lib.specs.Contents.{Held, held_name, Contents, records_of, user_data_of}
 use Rattle.pds_lib.proofs.Halving.{same_not_below, below_trans}
 use Rattle.pds_image.specs.Spelling.{record_bytes}

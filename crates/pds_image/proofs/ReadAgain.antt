@@ -8,16 +8,16 @@ use Rattle.std.proofs.lemmas.List.{take-map, drop-map}
 use Rattle.std.proofs.lemmas.Grind.{flat_map-append}
 use Rattle.std.proofs.Math.Seq.{drop-append_seam, take-append_seam}
 use Rattle.le_bytes.specs.Names.{name_eq}
-use Rattle.pds_lib.specs.declared.kinds.LibKind.{LibKind}
-use Rattle.pds_lib.specs.declared.kinds.LibKind.TheVariants.{Cards, Modules}
-use Rattle.pds_lib.specs.declared.kinds.Version.{Version}
-use Rattle.pds_lib.specs.declared.entry.Entry.{Entry}
-use Rattle.pds_lib.specs.declared.entry.Span.{Span}
-use Rattle.pds_lib.specs.declared.entry.Listed.{Listed}
-use Rattle.pds_lib.specs.declared.header.Head.{Head}
-use Rattle.pds_lib.specs.Parts.{part}
-use Rattle.pds_lib.specs.Places.{width, ends_from, ends_of, run_length}
-use Rattle.pds_lib.specs.Directory.{owner_from, owner_of, may_begin, names_owner, keeps_rules, rules_from, rules_of}
+use Rattle.pds_directory.specs.declared.kinds.LibKind.{LibKind}
+use Rattle.pds_directory.specs.declared.kinds.LibKind.TheVariants.{Cards, Modules}
+use Rattle.pds_directory.specs.declared.kinds.Version.{Version}
+use Rattle.pds_directory.specs.declared.entry.Entry.{Entry}
+use Rattle.pds_directory.specs.declared.entry.Span.{Span}
+use Rattle.pds_directory.specs.declared.entry.Listed.{Listed}
+use Rattle.pds_directory.specs.declared.header.Head.{Head}
+use Rattle.pds_directory.specs.Parts.{part}
+use Rattle.pds_directory.specs.Places.{width, ends_from, ends_of, run_length}
+use Rattle.pds_directory.specs.Directory.{owner_from, owner_of, may_begin, names_owner, keeps_rules, rules_from, rules_of}
 use Rattle.pds_lib.specs.Grammar.{places_from, main_of, member_of, members_of}
 use Rattle.pds_lib.specs.Contents.{Held, Contents}
 use Rattle.pds_image.specs.Image.{first_record}

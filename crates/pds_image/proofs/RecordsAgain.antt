@@ -6,13 +6,13 @@ use Rattle.std.proofs.lemmas.List.{length-drop, drop-drop, append-nil}
 use Rattle.std.proofs.Math.Seq.{drop-append_seam, take-append_seam}
 use Rattle.byteorder.specs.Endian.{big_number}
 use Rattle.byteorder.specs.Numbers.{big_number-reads_back}
-use Rattle.pds_lib.specs.declared.kinds.LibKind.{LibKind}
-use Rattle.pds_lib.specs.declared.kinds.Version.{Version}
-use Rattle.pds_lib.specs.declared.kinds.Version.TheVariants.{One, Two}
-use Rattle.pds_lib.specs.declared.entry.Span.{Span}
-use Rattle.pds_lib.specs.declared.header.Head.{Head}
-use Rattle.pds_lib.specs.Parts.{number, part}
-use Rattle.pds_lib.specs.Places.{width, record_at, has_length, may_stand, next_record, records_from}
+use Rattle.pds_directory.specs.declared.kinds.LibKind.{LibKind}
+use Rattle.pds_directory.specs.declared.kinds.Version.{Version}
+use Rattle.pds_directory.specs.declared.kinds.Version.TheVariants.{One, Two}
+use Rattle.pds_directory.specs.declared.entry.Span.{Span}
+use Rattle.pds_directory.specs.declared.header.Head.{Head}
+use Rattle.pds_directory.specs.Parts.{number, part}
+use Rattle.pds_directory.specs.Places.{width, record_at, has_length, may_stand, next_record, records_from}
 use Rattle.pds_image.specs.Spelling.{number_bytes, record_bytes}
 use Rattle.pds_image.proofs.Capped.{length-record}
 

@@ -8,7 +8,7 @@ use Rattle.std.proofs.lemmas.Bool.Decides.{nat_tests}
 use Rattle.std.proofs.lemmas.Slice.Eq.{bytes_eq-Decides}
 use Rattle.le_bytes.specs.declared.name.Name.{Name}
 use Rattle.le_bytes.specs.Names.{name_eq}
-use Rattle.pds_lib.specs.declared.entry.Entry.{Entry}
+use Rattle.pds_directory.specs.declared.entry.Entry.{Entry}
 use Rattle.pds_lib.specs.Contents.{Contents}
 use Rattle.pds_image.specs.Image.{is_main, added, first_from, records_in}
 use Rattle.pds_image.specs.Firsts.{first_with}

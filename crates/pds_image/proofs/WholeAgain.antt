@@ -6,19 +6,19 @@ use Rattle.std.proofs.lemmas.Bool.{leb-true}
 use Rattle.std.proofs.lemmas.List.Sums.{sum_by-cons}
 use Rattle.std.proofs.Math.Seq.{drop-append_seam}
 use Rattle.le_bytes.specs.declared.name.Name.{Name}
-use Rattle.pds_lib.specs.declared.kinds.LibKind.{LibKind}
-use Rattle.pds_lib.specs.declared.kinds.LibKind.TheVariants.{Cards, Modules}
-use Rattle.pds_lib.specs.declared.kinds.Version.{Version}
-use Rattle.pds_lib.specs.declared.kinds.Version.TheVariants.{One, Two}
-use Rattle.pds_lib.specs.declared.entry.Entry.{Entry}
-use Rattle.pds_lib.specs.declared.entry.Span.{Span}
-use Rattle.pds_lib.specs.declared.entry.Listed.{Listed}
-use Rattle.pds_lib.specs.declared.header.Head.{Head}
-use Rattle.pds_lib.specs.Parts.{number}
-use Rattle.pds_lib.specs.Order.{ascends}
-use Rattle.pds_lib.specs.Header.{mark, head_of, directory_end}
-use Rattle.pds_lib.specs.Places.{width, has_length, records_from, ends_of}
-use Rattle.pds_lib.specs.Directory.{listing_of, block_at, blocks_from, rules_of}
+use Rattle.pds_directory.specs.declared.kinds.LibKind.{LibKind}
+use Rattle.pds_directory.specs.declared.kinds.LibKind.TheVariants.{Cards, Modules}
+use Rattle.pds_directory.specs.declared.kinds.Version.{Version}
+use Rattle.pds_directory.specs.declared.kinds.Version.TheVariants.{One, Two}
+use Rattle.pds_directory.specs.declared.entry.Entry.{Entry}
+use Rattle.pds_directory.specs.declared.entry.Span.{Span}
+use Rattle.pds_directory.specs.declared.entry.Listed.{Listed}
+use Rattle.pds_directory.specs.declared.header.Head.{Head}
+use Rattle.pds_directory.specs.Parts.{number}
+use Rattle.pds_directory.specs.Order.{ascends}
+use Rattle.pds_directory.specs.Header.{mark, head_of, directory_end}
+use Rattle.pds_directory.specs.Places.{width, has_length, records_from, ends_of}
+use Rattle.pds_directory.specs.Directory.{listing_of, block_at, blocks_from, rules_of}
 use Rattle.pds_lib.specs.Grammar.{members_of, library_of}
 use Rattle.pds_lib.specs.Contents.{Held, held_name, Contents, entries_of, entry_count, record_count}
 use Rattle.pds_image.specs.Spelling.{number_bytes, version_byte, kind_byte, data_bytes, module_data, entry_bytes, closing, record_bytes, block_bytes, blocks_of}

@@ -4,8 +4,8 @@ use Rattle.std.specs.Option.{option_map_or}
 use Rattle.std.specs.List.{flat_map}
 use Rattle.le_bytes.specs.declared.name.Name.{Name}
 use Rattle.le_bytes.specs.Names.{name_eq}
-use Rattle.pds_lib.specs.declared.entry.Entry.{Entry}
-use Rattle.pds_lib.specs.Header.{mark}
+use Rattle.pds_directory.specs.declared.entry.Entry.{Entry}
+use Rattle.pds_directory.specs.Header.{mark}
 use Rattle.pds_lib.specs.Contents.{Contents, entries_of, records_of, user_data_of}
 use Rattle.pds_image.specs.Spelling.{number_bytes, data_bytes, entry_bytes, closing, blocks_of, record_bytes, version_byte, kind_byte}
 

@@ -2,7 +2,7 @@
 ghost use Rattle.std.specs.Prelude.{◌≡◌, ◌≤◌, ◌<◌, ◌+◌, ◌-◌, ◌^◌, ◌∷◌, [], ℕ, List, min, length};
 ghost use Rattle.std.specs.List.{flat_map};
 ghost use Rattle.pds_lib.specs.Contents.{entries_of};
-ghost use Rattle.pds_lib.specs.Places.{width};
+ghost use Rattle.pds_directory.specs.Places.{width};
 ghost use Rattle.pds_image.specs.Spelling.{data_bytes, record_bytes};
 ghost use Rattle.pds_image.specs.Lengths.{capped, block_length, blocks_length};
 ghost use Rattle.pds_image.specs.Image.{spelled_entry, directory_bytes, body_bytes, written};

@@ -1,6 +1,3 @@
-pub mod Blocks
-pub mod Walk
-pub mod Owners
 pub mod Halving
 pub mod Members
 pub mod Stowing
@@ -10,3 +7,4 @@ pub mod ReadPlaces
 pub mod ReadCount
 pub mod ReadSound
 pub mod StowSound
+pub mod Short

@@ -7,21 +7,21 @@ use Rattle.std.proofs.lemmas.Bool.{ltb-true, eqb-true}
 use Rattle.std.proofs.lemmas.List.{length-map, length-take, length-drop}
 use Rattle.le_bytes.specs.declared.name.Name.{Name}
 use Rattle.le_bytes.specs.Names.{name_eq}
-use Rattle.pds_lib.specs.declared.entry.Entry.{Entry}
-use Rattle.pds_lib.specs.declared.entry.Span.{Span}
+use Rattle.pds_directory.specs.declared.entry.Entry.{Entry}
+use Rattle.pds_directory.specs.declared.entry.Span.{Span}
 use Rattle.pds_lib.specs.declared.table.Row.{Row}
 use Rattle.pds_lib.specs.declared.table.Store.{Store}
-use Rattle.pds_lib.specs.declared.entry.Listed.{Listed}
-use Rattle.pds_lib.specs.Parts.{part, is_below}
-use Rattle.pds_lib.specs.Order.{ascends, ascends_after}
-use Rattle.pds_lib.specs.declared.header.Head.{Head}
-use Rattle.pds_lib.specs.Places.{run_length, ends_of, records_of as records_from_head}
-use Rattle.pds_lib.specs.Directory.{begins_at, owner_from, owner_of, listed_name, Listing, listing_of, rules_of}
+use Rattle.pds_directory.specs.declared.entry.Listed.{Listed}
+use Rattle.pds_directory.specs.Parts.{part, is_below}
+use Rattle.pds_directory.specs.Order.{ascends, ascends_after}
+use Rattle.pds_directory.specs.declared.header.Head.{Head}
+use Rattle.pds_directory.specs.Places.{run_length, ends_of, records_of as records_from_head}
+use Rattle.pds_directory.specs.Directory.{begins_at, owner_from, owner_of, listed_name, Listing, listing_of, rules_of}
 use Rattle.pds_lib.specs.Grammar.{member_of, members_of, library_of}
 use Rattle.pds_lib.specs.Rows.{main_count, row_of}
 use Rattle.pds_lib.specs.Contents.{Held}
 use Rattle.pds_lib.specs.Stored.{held, stored, row_name, is_few, row_is_there}
-use Rattle.pds_lib.proofs.Halving.{both_true}
+use Rattle.pds_directory.proofs.Halving.{both_true}
 
 abbrev pub members : List ℕ → List Span → List (List (List ℕ)) → List Row → List Held
 members image places given rows = map (held image places given) rows

@@ -3,10 +3,10 @@ use Rattle.std.proofs.Common.{◌≡◌, ℕ, zero, suc, ◌+◌, ◌-◌, ◌*�
 use Rattle.std.specs.Prelude.{slice_get}
 use Rattle.std.specs.List.{AllByRecursion, list_any}
 use Rattle.std.proofs.lemmas.Bool.Decides.{nat_tests}
-use Rattle.pds_lib.specs.declared.entry.Span.{Span}
-use Rattle.pds_lib.specs.declared.entry.Listed.{Listed}
-use Rattle.pds_lib.specs.Places.{ends_from, run_length}
-use Rattle.pds_lib.specs.Directory.{begins_at, owner_from}
+use Rattle.pds_directory.specs.declared.entry.Span.{Span}
+use Rattle.pds_directory.specs.declared.entry.Listed.{Listed}
+use Rattle.pds_directory.specs.Places.{ends_from, run_length}
+use Rattle.pds_directory.specs.Directory.{begins_at, owner_from}
 use Rattle.pds_lib.proofs.ReadPlaces.{last_ends}
 
 -- ---- members by the place of their first record

@@ -8,20 +8,20 @@ use Rattle.std.proofs.lemmas.List.{length-take, length-take-le, length-drop}
 use Rattle.le_bytes.specs.declared.name.Name.{Name}
 use Rattle.le_bytes.specs.declared.library_fault.LibFault.{LibFault}
 use Rattle.le_bytes.specs.declared.library_fault.LibFault.TheVariants.{BadDirectory, BadEntry}
-use Rattle.pds_lib.specs.declared.kinds.LibKind.{LibKind}
-use Rattle.pds_lib.specs.declared.kinds.LibKind.TheVariants.{Cards, Modules}
-use Rattle.pds_lib.specs.declared.kinds.Version.{Version}
-use Rattle.pds_lib.specs.declared.entry.Span.{Span}
-use Rattle.pds_lib.specs.declared.entry.Listed.{Listed}
-use Rattle.pds_lib.specs.declared.header.Head.{Head}
-use Rattle.pds_lib.specs.Parts.{number, name_at, part}
-use Rattle.pds_lib.specs.Answers.{◌>>=◌}
-use Rattle.pds_lib.specs.Order.{ascends}
-use Rattle.pds_lib.specs.Header.{mark, head_of, counted, version_of, kind_of, directory_end}
-use Rattle.pds_lib.specs.Directory.{data_length, entry_length, entry_fits, is_alias, last_name, is_last, is_closed, listed_name, is_above, has_size, is_good, entry_of, data_of, listed_of, entry_at, after_entry, entries_from, block_at, block_from, blocks_from, Listing, listing_with, listing_of}
+use Rattle.pds_directory.specs.declared.kinds.LibKind.{LibKind}
+use Rattle.pds_directory.specs.declared.kinds.LibKind.TheVariants.{Cards, Modules}
+use Rattle.pds_directory.specs.declared.kinds.Version.{Version}
+use Rattle.pds_directory.specs.declared.entry.Span.{Span}
+use Rattle.pds_directory.specs.declared.entry.Listed.{Listed}
+use Rattle.pds_directory.specs.declared.header.Head.{Head}
+use Rattle.pds_directory.specs.Parts.{number, name_at, part}
+use Rattle.pds_directory.specs.Answers.{◌>>=◌}
+use Rattle.pds_directory.specs.Order.{ascends}
+use Rattle.pds_directory.specs.Header.{mark, head_of, counted, version_of, kind_of, directory_end}
+use Rattle.pds_directory.specs.Directory.{data_length, entry_length, entry_fits, is_alias, last_name, is_last, is_closed, listed_name, is_above, has_size, is_good, entry_of, data_of, listed_of, entry_at, after_entry, entries_from, block_at, block_from, blocks_from, Listing, listing_with, listing_of}
 use Rattle.pds_lib.specs.Sound.{HasData}
-use Rattle.pds_lib.proofs.Halving.{both_true}
-use Rattle.pds_lib.proofs.Blocks.{ascends_push, entry_is_above}
+use Rattle.pds_directory.proofs.Halving.{both_true}
+use Rattle.pds_directory.proofs.Blocks.{ascends_push, entry_is_above}
 
 -- ---- steps that were not the last
 

@@ -7,17 +7,17 @@ use Rattle.std.proofs.lemmas.List.Sums.{prefix_len-le-length}
 use Rattle.std.proofs.lemmas.List.{length-take-le}
 use Rattle.le_bytes.specs.declared.library_fault.LibFault.{LibFault}
 use Rattle.le_bytes.specs.declared.library_fault.LibFault.TheVariants.{BadRecord}
-use Rattle.pds_lib.specs.declared.kinds.LibKind.{LibKind}
-use Rattle.pds_lib.specs.declared.kinds.Version.{Version}
-use Rattle.pds_lib.specs.declared.kinds.Version.TheVariants.{One, Two}
-use Rattle.pds_lib.specs.declared.entry.Span.{Span}
-use Rattle.pds_lib.specs.declared.header.Head.{Head}
-use Rattle.pds_lib.specs.Parts.{number, part}
-use Rattle.pds_lib.specs.Header.{directory_end}
-use Rattle.pds_lib.specs.Places.{width, record_at, has_length, may_stand, standing, next_record, after_record, records_from, records_of, run_length}
+use Rattle.pds_directory.specs.declared.kinds.LibKind.{LibKind}
+use Rattle.pds_directory.specs.declared.kinds.Version.{Version}
+use Rattle.pds_directory.specs.declared.kinds.Version.TheVariants.{One, Two}
+use Rattle.pds_directory.specs.declared.entry.Span.{Span}
+use Rattle.pds_directory.specs.declared.header.Head.{Head}
+use Rattle.pds_directory.specs.Parts.{number, part}
+use Rattle.pds_directory.specs.Header.{directory_end}
+use Rattle.pds_directory.specs.Places.{width, record_at, has_length, may_stand, standing, next_record, after_record, records_from, records_of, run_length}
 use Rattle.pds_lib.specs.Contents.{Contents}
 use Rattle.pds_lib.specs.Sound.{IsRecord}
-use Rattle.pds_lib.proofs.Halving.{both_true}
+use Rattle.pds_directory.proofs.Halving.{both_true}
 use Rattle.pds_lib.proofs.ReadEntries.{then_ok, AreBytes, two_fit, four_fit, part_long}
 
 -- ---- one record

@@ -11,19 +11,20 @@ use Rattle.std.proofs.lemmas.List.Sums.{sum_by-cons}
 use Rattle.le_bytes.specs.declared.name.Name.{Name}
 use Rattle.le_bytes.specs.Names.{name_eq}
 use Rattle.le_bytes.specs.declared.library_fault.LibFault.TheVariants.{BadEntry}
-use Rattle.pds_lib.specs.declared.kinds.LibKind.{LibKind}
-use Rattle.pds_lib.specs.declared.kinds.LibKind.TheVariants.{Cards, Modules}
-use Rattle.pds_lib.specs.declared.entry.Entry.{Entry}
-use Rattle.pds_lib.specs.declared.entry.Span.{Span}
-use Rattle.pds_lib.specs.declared.entry.Listed.{Listed}
-use Rattle.pds_lib.specs.Parts.{part, is_below}
-use Rattle.pds_lib.specs.Order.{ascends, ascends_after}
-use Rattle.pds_lib.specs.Places.{records_of, ends_of, run_length}
-use Rattle.pds_lib.specs.Directory.{listed_name, begins_at, owner_from, owner_of, may_begin, names_owner, keeps_rules, rules_from, rules_of, Listing, listing_of}
+use Rattle.pds_directory.specs.declared.kinds.LibKind.{LibKind}
+use Rattle.pds_directory.specs.declared.kinds.LibKind.TheVariants.{Cards, Modules}
+use Rattle.pds_directory.specs.declared.entry.Entry.{Entry}
+use Rattle.pds_directory.specs.declared.entry.Span.{Span}
+use Rattle.pds_directory.specs.declared.entry.Listed.{Listed}
+use Rattle.pds_directory.specs.Parts.{part, is_below}
+use Rattle.pds_directory.specs.Order.{ascends, ascends_after}
+use Rattle.pds_directory.specs.Places.{records_of, ends_of, run_length}
+use Rattle.pds_directory.specs.Directory.{listed_name, begins_at, owner_from, owner_of, may_begin, names_owner, keeps_rules, rules_from, rules_of, Listing, listing_of}
 use Rattle.pds_lib.specs.Grammar.{places_from, main_of, member_of, members_of, library_of}
 use Rattle.pds_lib.specs.Contents.{Held, held_name, Contents, entry_count, record_count}
 use Rattle.pds_lib.specs.Sound.{HasData, HasMain, IsHeld, IsSound}
-use Rattle.pds_lib.proofs.Halving.{both_true, below_trans, same_not_below, ascends_tail}
+use Rattle.pds_directory.proofs.Halving.{both_true}
+use Rattle.pds_lib.proofs.Halving.{below_trans, same_not_below, ascends_tail}
 use Rattle.pds_lib.proofs.Members.{find-map, ascends-map, owner_low}
 use Rattle.pds_lib.proofs.ReadEntries.{bind_ok, then_ok, AreBytes, IsListed, IsListing, listing_holds}
 use Rattle.pds_lib.proofs.ReadPlaces.{ArePlaces, places_hold, run_long, member_records}

@@ -9,10 +9,10 @@ use Rattle.std.proofs.lemmas.List.Folds.{list_all-append}
 use Rattle.std.proofs.lemmas.List.Sums.{sum_by-insert, sum_by-cons}
 use Rattle.le_bytes.specs.declared.name.Name.{Name}
 use Rattle.le_bytes.specs.Names.{name_eq}
-use Rattle.pds_lib.specs.declared.kinds.LibKind.{LibKind}
-use Rattle.pds_lib.specs.declared.kinds.Version.{Version}
-use Rattle.pds_lib.specs.declared.entry.Entry.{Entry}
-use Rattle.pds_lib.specs.declared.entry.Span.{Span}
+use Rattle.pds_directory.specs.declared.kinds.LibKind.{LibKind}
+use Rattle.pds_directory.specs.declared.kinds.Version.{Version}
+use Rattle.pds_directory.specs.declared.entry.Entry.{Entry}
+use Rattle.pds_directory.specs.declared.entry.Span.{Span}
 use Rattle.pds_lib.specs.declared.member.Member.{Member}
 use Rattle.pds_lib.specs.declared.member.AliasAt.{AliasAt}
 use Rattle.pds_lib.specs.declared.member.StowFault.{StowFault}
@@ -20,13 +20,14 @@ use Rattle.pds_lib.specs.declared.member.StowFault.TheVariants.{Exists, TooManyR
 use Rattle.pds_lib.specs.declared.table.Row.{Row}
 use Rattle.pds_lib.specs.declared.table.Store.{Store}
 use Rattle.pds_lib.specs.declared.table.Store.TheVariants.{Read, Given}
-use Rattle.pds_lib.specs.Parts.{is_below, part}
-use Rattle.pds_lib.specs.Order.{ascends, ascends_after, place_of}
+use Rattle.pds_directory.specs.Parts.{is_below, part}
+use Rattle.pds_directory.specs.Order.{ascends, ascends_after, place_of}
 use Rattle.pds_lib.specs.Contents.{Held, held_name, Contents, entry_count, record_count}
 use Rattle.pds_lib.specs.Stored.{row_name, stored, held, is_there, row_is_there, is_few}
 use Rattle.pds_lib.specs.Stow.{stays, main_entry, alias_entry, entries_for, has_name, put_in, put_all, held_for, counted, stowed, Stows}
 use Rattle.pds_lib.specs.Rows.{row_for, left_of, rows_stowed, total_after, PutsRows, StowsRows}
-use Rattle.pds_lib.proofs.Halving.{both_true, below_trans, ascends_tail}
+use Rattle.pds_directory.proofs.Halving.{both_true}
+use Rattle.pds_lib.proofs.Halving.{below_trans, ascends_tail}
 use Rattle.pds_lib.proofs.Members.{members}
 
 -- ---- what stays

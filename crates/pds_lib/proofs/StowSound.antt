@@ -10,18 +10,18 @@ use Rattle.std.proofs.lemmas.List.{take-append-drop}
 use Rattle.std.proofs.lemmas.List.Folds.{find-append}
 use Rattle.le_bytes.specs.declared.name.Name.{Name}
 use Rattle.le_bytes.specs.Names.{name_eq}
-use Rattle.pds_lib.specs.declared.kinds.LibKind.{LibKind}
-use Rattle.pds_lib.specs.declared.kinds.LibKind.TheVariants.{Modules}
-use Rattle.pds_lib.specs.declared.kinds.Version.{Version}
-use Rattle.pds_lib.specs.declared.kinds.Version.TheVariants.{One, Two}
-use Rattle.pds_lib.specs.declared.entry.Entry.{Entry}
+use Rattle.pds_directory.specs.declared.kinds.LibKind.{LibKind}
+use Rattle.pds_directory.specs.declared.kinds.LibKind.TheVariants.{Modules}
+use Rattle.pds_directory.specs.declared.kinds.Version.{Version}
+use Rattle.pds_directory.specs.declared.kinds.Version.TheVariants.{One, Two}
+use Rattle.pds_directory.specs.declared.entry.Entry.{Entry}
 use Rattle.pds_lib.specs.declared.member.AliasAt.{AliasAt}
 use Rattle.pds_lib.specs.declared.member.Member.{Member}
 use Rattle.pds_lib.specs.declared.member.StowFault.{StowFault}
 use Rattle.pds_lib.specs.declared.member.StowFault.TheVariants.{Exists, TooManyRecords}
-use Rattle.pds_lib.specs.Order.{ascends, place_of}
-use Rattle.pds_lib.specs.Places.{width, has_length}
-use Rattle.pds_lib.specs.Directory.{last_name as last_bytes}
+use Rattle.pds_directory.specs.Order.{ascends, place_of}
+use Rattle.pds_directory.specs.Places.{width, has_length}
+use Rattle.pds_directory.specs.Directory.{last_name as last_bytes}
 use Rattle.pds_lib.specs.Contents.{Held, held_name, Contents, record_count}
 use Rattle.pds_lib.specs.Sound.{IsRecord, HasData, HasMain, IsHeld, IsSound}
 use Rattle.pds_lib.specs.Stow.{is_named, stays, main_entry, alias_entry, entries_for, HasWidths, has_name, put_in, put_all, held_for, counted, kept, stowed, last_name, MayStow}
@@ -80,7 +80,7 @@ put_holds P records hs out (e ∷ es) all each put =
 
 -- ---- an entry that is found by its name still is
 
-abbrev named : Name → Held → Bool
+abbrev pub named : Name → Held → Bool
 named n h = name_eq h.entry.name n
 
 name_from : (m n : Name) → name_eq m n ≡ true → m ≡ n
@@ -169,7 +169,7 @@ all_step : (P : Held → Type 0) (n : Name) (g : Held) (hs : List Held) (h : Hel
 all_step P n g hs h true all there more = let same : g ≡ h = cc in subst P same all.0
 all_step P n g hs h false all there more = more there
 
-all_found : (P : Held → Type 0) (n : Name) (hs : List Held) (h : Held) → AllByRecursion P hs → find (named n) hs ≡ Some h → P h
+pub all_found : (P : Held → Type 0) (n : Name) (hs : List Held) (h : Held) → AllByRecursion P hs → find (named n) hs ≡ Some h → P h
 all_found P n [] h all there = absurd cc
 all_found P n (g ∷ hs) h all there = all_step P n g hs h (named n g) all there (all_found P n hs h all.1)
 

@@ -4,17 +4,18 @@ use Rattle.std.specs.Prelude.{find, slice_get, is_some, insert}
 use Rattle.std.specs.List.{list_any}
 use Rattle.le_bytes.specs.declared.name.Name.{Name}
 use Rattle.le_bytes.specs.Names.{name_eq}
-use Rattle.pds_lib.specs.declared.entry.Entry.{Entry}
+use Rattle.pds_directory.specs.declared.entry.Entry.{Entry}
 use Rattle.pds_lib.specs.declared.member.StowFault.{StowFault}
 use Rattle.pds_lib.specs.declared.member.StowFault.TheVariants.{Exists, TooManyRecords, Memory}
 use Rattle.pds_lib.specs.declared.table.Row.{Row}
 use Rattle.pds_lib.specs.declared.table.Store.{Store}
-use Rattle.pds_lib.specs.Parts.{is_below}
-use Rattle.pds_lib.specs.Order.{ascends, ascends_after, place_of}
+use Rattle.pds_directory.specs.Parts.{is_below}
+use Rattle.pds_directory.specs.Order.{ascends, ascends_after, place_of}
 use Rattle.pds_lib.specs.Stored.{row_name}
 use Rattle.pds_lib.specs.Stow.{has_name, put_in, put_all}
 use Rattle.pds_lib.specs.Rows.{row_for, PutsRow, PutsRows}
-use Rattle.pds_lib.proofs.Halving.{both_true, else_below}
+use Rattle.pds_directory.proofs.Halving.{both_true}
+use Rattle.pds_lib.proofs.Halving.{else_below}
 
 -- ---- a name that is there
 

@@ -3,12 +3,12 @@ use Rattle.std.specs.Prelude.{ℕ, ◌-◌, List, map, take, drop, slice_get, if
 use Rattle.std.specs.Option.{option_map_or}
 use Rattle.le_bytes.specs.declared.name.Name.{Name}
 use Rattle.le_bytes.specs.declared.library_fault.LibFault.{LibFault}
-use Rattle.pds_lib.specs.declared.entry.Span.{Span}
-use Rattle.pds_lib.specs.declared.entry.Listed.{Listed}
-use Rattle.pds_lib.specs.Parts.{part}
-use Rattle.pds_lib.specs.Answers.{◌>>=◌}
-use Rattle.pds_lib.specs.Directory.{listing_of, owner_of, rules_of}
-use Rattle.pds_lib.specs.Places.{records_of, ends_of, run_length}
+use Rattle.pds_directory.specs.declared.entry.Span.{Span}
+use Rattle.pds_directory.specs.declared.entry.Listed.{Listed}
+use Rattle.pds_directory.specs.Parts.{part}
+use Rattle.pds_directory.specs.Answers.{◌>>=◌}
+use Rattle.pds_directory.specs.Directory.{listing_of, owner_of, rules_of}
+use Rattle.pds_directory.specs.Places.{records_of, ends_of, run_length}
 use Rattle.pds_lib.specs.Contents.{Held, Contents}
 
 -- the records from a number on, up to the end of their member
@@ -21,6 +21,7 @@ main_of xs x =
     if x.entry.alias then option_map_or (λ j. option_map_or (λ (y : Listed). y.entry.name) (slice_get xs j) x.entry.main) (owner_of xs x.first) x.entry.main
     else x.entry.main
 
+-- an entry with its user data and the records of its member
 abbrev pub member_of : List ℕ → List Span → List Listed → Listed → Held
 member_of image places xs x =
     record {
@@ -29,6 +30,7 @@ member_of image places xs x =
       records = map (part image) (places_from places x.first);
     }
 
+-- the same of all entries
 abbrev pub members_of : List ℕ → List Span → List Listed → List Held
 members_of image places xs = map (member_of image places xs) xs
 

@@ -1,9 +1,3 @@
-pub mod Parts
-pub mod Answers
-pub mod Header
-pub mod Directory
-pub mod Places
-pub mod Order
 pub mod Contents
 pub mod Sound
 pub mod Stored

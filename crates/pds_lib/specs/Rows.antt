@@ -1,14 +1,14 @@
 -- The rows of a library, which are its entries with where their records are kept.
 use Rattle.std.specs.Prelude.{◌≡◌, ℕ, ◌+◌, ◌-◌, ◌<◌, ◌≤◌, Bool, true, false, List, length, map, filter, drop, if◌then◌else◌, Result, Ok, Err, is_ok}
-use Rattle.pds_lib.specs.declared.entry.Span.{Span}
-use Rattle.pds_lib.specs.declared.entry.Listed.{Listed}
-use Rattle.pds_lib.specs.declared.entry.Entry.{Entry}
+use Rattle.pds_directory.specs.declared.entry.Span.{Span}
+use Rattle.pds_directory.specs.declared.entry.Listed.{Listed}
+use Rattle.pds_directory.specs.declared.entry.Entry.{Entry}
 use Rattle.pds_lib.specs.declared.member.StowFault.{StowFault}
 use Rattle.pds_lib.specs.declared.member.StowFault.TheVariants.{Exists, TooManyRecords, Memory}
 use Rattle.pds_lib.specs.declared.table.Row.{Row}
 use Rattle.pds_lib.specs.declared.table.Store.{Store}
 use Rattle.pds_lib.specs.declared.table.Store.TheVariants.{Read, Given}
-use Rattle.pds_lib.specs.Places.{run_length}
+use Rattle.pds_directory.specs.Places.{run_length}
 use Rattle.pds_lib.specs.Grammar.{main_of}
 use Rattle.pds_lib.specs.Contents.{record_count}
 use Rattle.pds_lib.specs.Stored.{row_name, held}
@@ -51,6 +51,7 @@ PutsRow (Err (TooManyRecords n)) old new r = ⊥
 abbrev pub left_of : List Row → Member → Bool → List Row
 left_of rows m replace = filter (λ (r : Row). stays m replace r.entry) rows
 
+-- the rows after a stow, or the name that is there already
 unfoldable pub rows_stowed : ℕ → List Row → Member → Bool → Result (List Row) StowFault
 rows_stowed n rows m replace = put_all row_name (row_for (Given n)) (left_of rows m replace) (entries_for m)
 

@@ -3,12 +3,12 @@ use Rattle.std.specs.Prelude.{◌≡◌, ℕ, ◌≤◌, ◌<◌, ◌^◌, ◌%�
 use Rattle.std.specs.List.{AllByRecursion}
 use Rattle.std.specs.Str.{bytes_eq}
 use Rattle.le_bytes.specs.Names.{name_eq}
-use Rattle.pds_lib.specs.declared.kinds.LibKind.{LibKind}
-use Rattle.pds_lib.specs.declared.kinds.LibKind.TheVariants.{Cards, Modules}
-use Rattle.pds_lib.specs.declared.entry.Entry.{Entry}
-use Rattle.pds_lib.specs.Places.{width, has_length}
-use Rattle.pds_lib.specs.Directory.{last_name}
-use Rattle.pds_lib.specs.Order.{ascends}
+use Rattle.pds_directory.specs.declared.kinds.LibKind.{LibKind}
+use Rattle.pds_directory.specs.declared.kinds.LibKind.TheVariants.{Cards, Modules}
+use Rattle.pds_directory.specs.declared.entry.Entry.{Entry}
+use Rattle.pds_directory.specs.Places.{width, has_length}
+use Rattle.pds_directory.specs.Directory.{last_name}
+use Rattle.pds_directory.specs.Order.{ascends}
 use Rattle.pds_lib.specs.Contents.{Held, held_name, Contents, record_count}
 
 -- a record is not empty, its length can be written, and it may stand in a library of this kind

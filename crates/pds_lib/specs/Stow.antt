@@ -3,13 +3,13 @@ use Rattle.std.specs.Prelude.{◌≡◌, ℕ, ◌<◌, ◌^◌, Bool, true, fals
 use Rattle.std.specs.List.{list_any, AllByRecursion}
 use Rattle.le_bytes.specs.declared.name.Name.{Name}
 use Rattle.le_bytes.specs.Names.{name_eq}
-use Rattle.pds_lib.specs.declared.kinds.LibKind.TheVariants.{Modules}
-use Rattle.pds_lib.specs.declared.entry.Entry.{Entry}
+use Rattle.pds_directory.specs.declared.kinds.LibKind.TheVariants.{Modules}
+use Rattle.pds_directory.specs.declared.entry.Entry.{Entry}
 use Rattle.pds_lib.specs.declared.member.AliasAt.{AliasAt}
 use Rattle.pds_lib.specs.declared.member.Member.{Member}
 use Rattle.pds_lib.specs.declared.member.StowFault.{StowFault}
 use Rattle.pds_lib.specs.declared.member.StowFault.TheVariants.{Exists, TooManyRecords, Memory}
-use Rattle.pds_lib.specs.Order.{place_of}
+use Rattle.pds_directory.specs.Order.{place_of}
 use Rattle.pds_lib.specs.Contents.{Held, held_name, Contents, record_count}
 
 -- the member's name or one of its alias names
@@ -21,6 +21,7 @@ is_named m n = name_eq n m.name || list_any (λ (a : AliasAt). name_eq n a.name)
 abbrev pub goes : Member → Entry → Bool
 goes m e = name_eq e.main m.name || (e.alias && is_named m e.name)
 
+-- without replace every entry stays
 abbrev pub stays : Member → Bool → Entry → Bool
 stays m replace e = not (replace && goes m e)
 
@@ -29,9 +30,11 @@ abbrev pub entry_with : Member → Name → Bool → ℕ → ℕ → Entry
 entry_with m name alias entry section =
     record { name = name; main = m.name; alias = alias; attr = m.attr; length = m.length; entry = entry; entry_section = section }
 
+-- a member's own entry
 abbrev pub main_entry : Member → Entry
 main_entry m = entry_with m m.name false m.entry m.entry_section
 
+-- the entry of one of its aliases
 abbrev pub alias_entry : Member → AliasAt → Entry
 alias_entry m a = entry_with m a.name true a.entry a.entry_section
 
@@ -43,6 +46,7 @@ entries_for m = main_entry m ∷ map (alias_entry m) m.aliases
 abbrev pub HasWidths : Entry → Type 0
 HasWidths e = (length e.name.0 ≡ 8) × (length e.main.0 ≡ 8) × (e.entry_section < 2 ^ 16)
 
+-- one of these has the name
 abbrev pub has_name : {X : Type 0} → (X → Name) → List X → Name → Bool
 has_name name xs n = list_any (λ x. name_eq (name x) n) xs
 
@@ -65,6 +69,7 @@ abbrev pub counted : Contents → Result (List Held) StowFault → Result Conten
 counted lib (Err f) = Err f
 counted lib (Ok hs) = if nat_lt 16777215 (record_count hs) then Err (TooManyRecords (record_count hs)) else Ok (record lib { members = hs })
 
+-- the members that stay
 abbrev pub kept : Contents → Member → Bool → List Held
 kept lib m replace = filter (λ (h : Held). stays m replace h.entry) lib.members
 
@@ -83,6 +88,7 @@ Stows old m replace (Err (TooManyRecords n)) new = (stowed old m replace ≡ Err
 abbrev pub last_name : Name
 last_name = record { 0 = 255 ∷ 255 ∷ 255 ∷ 255 ∷ 255 ∷ 255 ∷ 255 ∷ 255 ∷ [] }
 
+-- the library is one of load modules, and name, addresses and records of the member can be written
 pub record MayStow (lib : Contents) (m : Member) : Type 0 where
   pub kind : lib.kind ≡ Modules
   pub records : AllByRecursion (λ (r : List ℕ). (0 < length r) × (length r < 2 ^ 16)) m.records

@@ -5,31 +5,21 @@
 //! its records.
 #![tactic(auto)]
 
-mod directory;
-mod entries;
-mod entry;
-mod header;
-mod kinds;
 mod library;
 mod member;
-mod parts;
-mod places;
 mod reading;
 mod records;
 mod set;
-mod stop;
 mod stow;
 mod table;
 
-pub use directory::{Directory, read_directory};
-pub use entry::{Entry, Listed, Span};
-pub use header::Head;
-pub use kinds::{LibKind, Version};
 pub use library::Library;
 pub use member::{AliasAt, Member, StowFault};
+pub use pds_directory::{
+    Directory, Entry, Head, LibKind, LibStop, Listed, Span, Version, read_directory,
+};
 pub use records::Records;
 pub use set::{Body, Set};
-pub use stop::LibStop;
 
 #[cfg(test)]
 mod tests;

@@ -1,17 +1,16 @@
 //! A library: its members by name, with their records.
-ghost use Rattle.std.specs.Prelude.{◌≡◌, ◌<◌, [], length, slice_get, IsTrue};
+ghost use Rattle.std.specs.Prelude.{◌≡◌, ◌<◌, [], length, take, drop, slice_get, IsTrue};
 ghost use Rattle.std.specs.Option.{option_copied, option_map_or};
 ghost use Rattle.std.specs.List.{list_all};
-ghost use Rattle.pds_lib.specs.Parts.{part};
+ghost use Rattle.pds_directory.specs.Parts.{part};
 ghost use Rattle.pds_lib.specs.Stored.{stored, is_few};
+ghost use Rattle.pds_lib.specs.Forms.{AreShort};
 ghost use Rattle.pds_lib.specs.declared.table.Row.{Row};
 
-use crate::entry::{Entry, Span};
-use crate::kinds::{LibKind, Version};
-use crate::parts::{part, read_places};
 use crate::records::{Form, Records};
 use crate::table::{Row, Store, Table, find_row, store_of};
 use le_bytes::{Bytes, Items, Name};
+use pds_directory::{Entry, LibKind, Span, Version, part};
 use std::alloc::Global;
 use std::marker::Model;
 
@@ -56,7 +55,17 @@ fn data_at<'a>(image: &'a [u8], rows: &[Row], k: usize) -> &'a [u8]
     }
 }
 
+/// So many places behind so many others, as far as there are.
+pub(crate) fn read_places(places: &[Span], first: usize, count: usize) -> &[Span]
+    ensures { result.now ≡ take count (drop first places.now) }
+{
+    let from = first.min(places.len());
+    let most = count.min(places.len() - from);
+    &places[from..from + most]
+}
+
 /// The records that are kept so.
+#[tactic(auto, using(crate::proofs::Short::none_short))]
 fn lend<'a>(
     image: &'a [u8],
     places: &'a [Span],
@@ -65,6 +74,7 @@ fn lend<'a>(
 ) -> Records<'a>
     requires places { length places.now < 16777216 }
     requires given { IsTrue (list_all is_few given.now) }
+    requires short { AreShort (stored image.now places.now given.now store) }
     ensures { result ≡ stored image.now places.now given.now store }
 {
     match store {
@@ -139,6 +149,7 @@ impl Library {
 
     /// The records of the member of an entry, as it stands in this library; none for an entry of another
     /// name. The cost is the logarithm of the number of entries.
+    #[tactic(auto, using(crate::proofs::Short::none_short))]
     pub fn records(&self, e: &Entry) -> Records<'_>
         ensures { result ≡ records_of self.now e.now }
     {

@@ -1,23 +1,21 @@
 //! The library that an image holds.
-ghost use Rattle.std.specs.Prelude.{◌≡◌, ◌-◌, ◌<◌, ◌≤◌, [], length, map, drop, slice_get, option_and_then, IfOk, IsTrue};
-ghost use Rattle.pds_lib.specs.Directory.{owner_of};
-ghost use Rattle.pds_lib.specs.Answers.{Gives};
-ghost use Rattle.pds_lib.specs.Places.{run_length};
+ghost use Rattle.std.specs.Prelude.{◌≡◌, ◌-◌, ◌<◌, [], length, map, drop, slice_get, option_and_then, IfOk, IsTrue};
+ghost use Rattle.pds_directory.specs.Directory.{owner_of};
+ghost use Rattle.pds_directory.specs.Answers.{Gives};
+ghost use Rattle.pds_directory.specs.Places.{run_length};
 ghost use Rattle.pds_lib.specs.Grammar.{main_of, library_of};
 ghost use Rattle.pds_lib.specs.Rows.{main_count, row_of};
 ghost use Rattle.std.specs.List.{list_all};
-ghost use Rattle.pds_lib.specs.Order.{ascends};
+ghost use Rattle.pds_directory.specs.Order.{ascends};
 ghost use Rattle.pds_lib.specs.Stored.{row_name, contents, row_is_there};
 ghost use Rattle.pds_lib.specs.Sound.{IsSound};
 
-use crate::directory::{Directory, read_directory};
-use crate::entry::{Listed, Span};
-use crate::header::Head;
 use crate::library::Library;
-use crate::places::{ends_of, read_records, run_length};
-use crate::stop::LibStop;
 use crate::table::{Row, Store, Table};
 use le_bytes::Name;
+use pds_directory::{
+    Directory, Head, LibStop, Listed, Span, ends_of, read_directory, read_records, run_length,
+};
 use std::alloc::{AllocError, Global};
 
 /// The records from number `first` on.
@@ -141,7 +139,7 @@ fn parts_of(alloc: Global, image: &[u8]) -> Result<(Head, Vec<Span>, Table), Lib
 }
 
 impl Library {
-    ghost use Rattle.pds_lib.specs.Answers.{Gives};
+    ghost use Rattle.pds_directory.specs.Answers.{Gives};
     ghost use Rattle.pds_lib.specs.Grammar.{library_of};
 
     /// The library that an image holds. The image is kept, and records are parts of it.

@@ -1,10 +1,9 @@
 //! The records of one member.
 ghost use Rattle.std.specs.Prelude.{◌≡◌, ◌-◌, ◌==◌, ◌<◌, length, slice_get, if◌then◌else◌};
-ghost use Rattle.std.specs.Option.{option_copied};
+ghost use Rattle.std.specs.Option.{option_copied, option_map};
 
-use crate::entry::Span;
-use crate::parts::part;
 use le_bytes::Bytes;
+use pds_directory::{Span, part};
 use std::marker::Model;
 
 /// Records that lie in an image, or that were stowed.
@@ -22,22 +21,23 @@ pub struct Records<'a> {
 
 impl<'a> Model for Records<'a> {
     ghost use Rattle.std.specs.Prelude.{List, ℕ, ◌<◌, length};
-    ghost use Rattle.pds_lib.specs.Forms.{seen};
+    ghost use Rattle.pds_lib.specs.Forms.{seen, AreShort};
 
     ghost Value = { List (List ℕ) };
 
     ghost view = { λ r. seen r.form };
 
-    ghost invariant = { λ r. length (seen r.form) < 16777216 };
+    ghost invariant = { λ r. (length (seen r.form) < 16777216) × AreShort (seen r.form) };
 }
 
 impl<'a> Records<'a> {
     ghost use Rattle.std.specs.Prelude.{◌≡◌, ◌-◌, ◌==◌, ◌<◌, length, slice_get, if◌then◌else◌};
-    ghost use Rattle.std.specs.Option.{option_copied};
-    ghost use Rattle.pds_lib.specs.Forms.{seen};
+    ghost use Rattle.std.specs.Option.{option_copied, option_map};
+    ghost use Rattle.pds_lib.specs.Forms.{seen, AreShort};
 
     pub(crate) fn new(form: Form<'a>) -> Records<'a>
-        requires { length (seen form) < 16777216 }
+        requires few { length (seen form) < 16777216 }
+        requires short { AreShort (seen form) }
         ensures { result ≡ seen form.entry }
     {
         Records { form }
@@ -71,6 +71,25 @@ impl<'a> Records<'a> {
                 Some(r) => Some(r.as_slice()),
                 None => None,
             },
+        }
+    }
+
+    /// What holds of the lengths of all records, for the proofs of callers. Does nothing.
+    fn are_short(&self)
+        ensures { AreShort self.now }
+    {
+        let _ = &self.form;
+    }
+
+    /// The length of record `n` in bytes; None exactly where n is not from 1 to the count.
+    #[tactic(auto, using(crate::proofs::Short::nth_short))]
+    pub fn length(&self, n: u32) -> Option<u32>
+        ensures { result ≡ (if n == 0 then None else option_map length (slice_get self.now (n - 1))) }
+    {
+        self.are_short();
+        match self.get(n) {
+            None => None,
+            Some(bytes) => Some(bytes.len() as u32),
         }
     }
 }

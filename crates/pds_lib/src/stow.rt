@@ -1,23 +1,21 @@
 //! A member goes into a library.
-ghost use Rattle.std.specs.Prelude.{◌≡◌, ◌≤◌, ◌<◌, ◌+◌, ◌^◌, ℕ, List, [], length, map, filter, insert, IfOk, IsTrue};
+ghost use Rattle.std.specs.Prelude.{◌≡◌, ◌≤◌, ◌<◌, ◌+◌, ◌^◌, ℕ, List, length, map, filter, insert, IfOk, IsTrue};
 ghost use Rattle.std.specs.List.{list_any, list_all, AllByRecursion};
 ghost use Rattle.pds_lib.specs.Contents.{entry_count, record_count};
 ghost use Rattle.le_bytes.specs.Names.{name_eq};
-ghost use Rattle.pds_lib.specs.Order.{ascends, place_of};
-ghost use Rattle.pds_lib.specs.Stow.{is_named, goes, stays, entry_with, main_entry, alias_entry, entries_for, HasWidths, has_name, put_in, put_all};
+ghost use Rattle.pds_directory.specs.Order.{ascends, place_of};
+ghost use Rattle.pds_lib.specs.Stow.{is_named, goes, stays, entry_with, main_entry, alias_entry, entries_for, HasWidths, has_name, put_all};
 ghost use Rattle.pds_lib.specs.Stored.{row_name, stored, held, is_few};
 ghost use Rattle.pds_lib.specs.Rows.{row_for, PutsRow, PutsRows, rows_stowed, total_after, StowsRows};
 ghost use Rattle.pds_lib.specs.declared.table.Row.{Row};
 ghost use Rattle.pds_lib.specs.declared.member.AliasAt.{AliasAt};
 ghost use Rattle.pds_lib.specs.declared.member.StowFault.TheVariants.{Exists};
 
-use crate::entry::{Entry, Span};
-use crate::header::MOST_RECORDS;
-use crate::library::Library;
+use crate::library::{Library, read_places};
 use crate::member::{AliasAt, Member, StowFault};
-use crate::parts::read_places;
 use crate::table::{Row, Store, Table, find_row, place_of};
 use le_bytes::{Bytes, Items, Name};
+use pds_directory::{Entry, MOST_RECORDS, Span};
 use std::alloc::{AllocError, Global};
 
 fn is_among(aliases: &[AliasAt], n: &Name) -> bool

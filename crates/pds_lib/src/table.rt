@@ -2,13 +2,12 @@
 ghost use Rattle.std.specs.Prelude.{◌≡◌, ◌≤◌, ◌<◌, List, false, None, length, map, find, IsTrue, IfOk, IfNone, IfSome, slice_get, option_map};
 ghost use Rattle.std.specs.Option.{option_map_or};
 ghost use Rattle.le_bytes.specs.Names.{name_eq};
-ghost use Rattle.pds_lib.specs.Order.{ascends, place_of};
+ghost use Rattle.pds_directory.specs.Order.{ascends, place_of};
 ghost use Rattle.pds_lib.specs.Stored.{row_name};
 ghost use Rattle.pds_lib.specs.declared.table.Row.{Row};
 
-use crate::entry::{Entry, Span};
-use crate::parts::is_below;
 use le_bytes::Name;
+use pds_directory::{Entry, Span, is_below};
 use std::alloc::{AllocError, Global};
 use std::marker::Model;
 
@@ -39,7 +38,7 @@ pub(crate) struct Table {
 impl Model for Table {
     ghost use Rattle.std.specs.Prelude.{◌≡◌, ◌<◌, ◌^◌, List, length, map, IsTrue};
     ghost use Rattle.pds_lib.specs.declared.table.Row.{Row};
-    ghost use Rattle.pds_lib.specs.Order.{ascends};
+    ghost use Rattle.pds_directory.specs.Order.{ascends};
     ghost use Rattle.pds_lib.specs.Stored.{row_name};
 
     ghost Value = { List Row };
@@ -119,7 +118,7 @@ fn entries_of(alloc: Global, rows: &[Row]) -> Result<Vec<Entry>, AllocError>
 
 impl Table {
     ghost use Rattle.std.specs.Prelude.{◌≡◌, ◌<◌, ◌^◌, [], length, map, IsTrue, IfOk};
-    ghost use Rattle.pds_lib.specs.Order.{ascends};
+    ghost use Rattle.pds_directory.specs.Order.{ascends};
     ghost use Rattle.pds_lib.specs.declared.table.Row.{Row};
     ghost use Rattle.pds_lib.specs.Stored.{row_name};
 

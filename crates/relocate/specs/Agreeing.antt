@@ -25,11 +25,12 @@ IsReached P c =
     let y = only_target c.terms in
     IsTrue (not (is_branch c.kind) || not (is_defined y) || is_direct P.program P.tree s y || is_some (holder P.program P.tree s y))
 
--- the bytes of each section as text gives them, and linked
+-- the bytes of each section as text gives them
 unfoldable pub stored_text : Program → List (List ℕ)
 stored_text p =
     map (λ i. map (stored_byte p.texts i) (range_with_len 0 (length_of_section p i))) (range_with_len 0 (length p.sections))
 
+-- the bytes of each section linked
 unfoldable pub linked_text : Laid → Placement → List (List ℕ)
 linked_text P q = map (linked_section P q) (range_with_len 0 (length P.program.sections))
 

@@ -13,6 +13,7 @@ table_of entries s = option_map_or (λ x. x) (slice_get entries (s - 1)) []
 abbrev pub is_listed : List (List Target) → Target → ℕ → Bool
 is_listed entries y s = is_some (position (target_eq y) (table_of entries s))
 
+-- the segment, where its table has the target
 abbrev pub if_listed : List (List Target) → Target → ℕ → Option ℕ
 if_listed entries y s = if is_listed entries y s then Some s else None
 

@@ -9,6 +9,7 @@ use Rattle.relocate.specs.declared.numbers.Shift.{Shift}
 abbrev pub shift_of : ℕ → Shift → ℕ
 shift_of m s = signed_difference m s.minus s.to s.from
 
+-- the new address of the first term, 0 where there is none
 abbrev pub only_to : List Shift → ℕ
 only_to [] = 0
 only_to (s ∷ _) = s.to

@@ -24,6 +24,7 @@ placed_at a = record {
   range = λ s. slice_index a.origins (s - 1);
 }
 
+-- the displacement of a register, 0 of any other target
 abbrev pub displacement_at : Places → Target → ℕ
 displacement_at a (OfRegister r) = slice_index a.registers r
 displacement_at a _ = 0
@@ -54,9 +55,11 @@ byte_by new constants content i o =
     option_map_or (λ c. slice_index (new c (field_of content c)) (o - c.offset)) (constant_at constants i o)
     (slice_index (section_of content i) o)
 
+-- the bytes of section i
 abbrev pub section_by : (Constant → List ℕ → List ℕ) → List Constant → List (List ℕ) → ℕ → List ℕ
 section_by new constants content i = map (byte_by new constants content i) (range_with_len 0 (length (section_of content i)))
 
+-- the bytes of all sections
 abbrev pub content_by : (Constant → List ℕ → List ℕ) → List Constant → List (List ℕ) → List (List ℕ)
 content_by new constants content = map (section_by new constants content) (range_with_len 0 (length content))
 

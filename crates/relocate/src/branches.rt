@@ -108,7 +108,7 @@ fn listed(t: &Tables, segment: u8, target: Target) -> Option<u8>
 }
 
 /// The targets in the table of a segment.
-fn entries_of(t: &Tables, segment: u8) -> &[Target]
+pub(crate) fn entries_of(t: &Tables, segment: u8) -> &[Target]
     ensures { result.now ≡ table_of t.now.entries segment }
 {
     match t.entries.get(segment.saturating_sub(1) as usize) {

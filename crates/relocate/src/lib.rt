@@ -6,6 +6,7 @@ mod branches;
 mod laws;
 mod numbers;
 mod relocating;
+mod tables;
 #[cfg(test)]
 mod tests;
 mod writing;
@@ -13,3 +14,4 @@ mod writing;
 pub use laws::stored_text_is_linked;
 pub use numbers::{Shift, patch};
 pub use relocating::relocate_all;
+pub use tables::{entab_bytes, segtab_bytes};

@@ -17,16 +17,19 @@ pub record Found : Type 0 where
 abbrev pub beneath : ℕ → Found → Found
 beneath number x = record x { up = x.up ++ number ∷ [] }
 
+-- the segment of a number, in what a node leads to
 abbrev mutual
   pub found : Node → ℕ → Option Found
   found (Node' number region first next) s =
       if number == s then Some (record { region = region; up = [] })
       else option_or (option_map (beneath number) (found_among first s)) (found_among next s)
 
+  -- the same behind a place that may hold a node
   pub found_among : Held-Node-first → ℕ → Option Found
   found_among None' s = None
   found_among (Some' p node) s = found node s
 
+-- the same behind a box
 abbrev pub found_in : Option (Box Node Global) → ℕ → Option Found
 found_in held s = option_and_then (λ b. found b.value s) held
 
@@ -38,9 +41,11 @@ parent_under above x = get_or (x.up ++ above ∷ []) 0 0
 unfoldable pub passes : ℕ → ℕ → Bool → Found → Bool
 passes a s passed x = is_in a (s ∷ x.up) || passed
 
+-- segment s and those above it, none where it was not found
 abbrev pub path_found : ℕ → Option Found → List ℕ
 path_found s x = option_map_or (λ f. s ∷ f.up) x []
 
+-- its parent and region, both 0 where it was not found
 abbrev pub segment_found : Option Found → Segment
 segment_found x = record { parent = option_map_or (parent_under 0) x 0; region = option_map_or (λ f. f.region) x 0 }
 

@@ -1,6 +1,6 @@
 //! The tree of segments and the symbols at which they begin.
 ghost use Rattle.std.specs.Prelude.{◌≡◌, ◌+◌, max, ◌++◌, ◌∷◌, [], length, IfOk, OnOk, OnErr, position, option_map, ◌==◌, if◌then◌else◌, Some, None};
-ghost use Rattle.linking_model.specs.Tree.{plain, overlay_fault, first_of, next_segment, overlaid, IsTree, IsSmall, is_on_path, lowest_common, parent_of, region_of};
+ghost use Rattle.linking_model.specs.Tree.{plain, overlay_fault, first_of, next_segment, overlaid, IsTree, IsSmall, is_on_path, lowest_common, parent_of, region_of, regions};
 ghost use Rattle.le_bytes.specs.Names.{name_eq};
 ghost use Rattle.seg_tree.specs.Answers.{OverlayAnswer, told};
 
@@ -95,6 +95,13 @@ impl SegTree {
         ensures small { IsSmall self.now.tree }
     {
         self.count
+    }
+
+    /// The number of regions.
+    pub fn regions(&self) -> u8
+        ensures { result ≡ regions self.now.tree }
+    {
+        self.regions
     }
 
     /// Whether segment `a` is segment `b` or above it. Of numbers that no segment has it is not.

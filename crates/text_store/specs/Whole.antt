@@ -4,6 +4,7 @@ use Rattle.std.specs.Option.{option_map_or}
 use Rattle.std.specs.Vec.{with_item, with_items_from}
 use Rattle.text_store.specs.declared.whole.WholeText.{WholeText}
 
+-- the bytes of each section
 abbrev pub content_of : WholeText → List (List ℕ)
 content_of text = map (λ v. v.items) text.sections.items
 

@@ -1,5 +1,5 @@
 use Rattle.std.proofs.Common.{◌∙◌, ap}
-use Rattle.pds_lib.specs.Places.{width}
+use Rattle.pds_directory.specs.Places.{width}
 use Rattle.pds_image.proofs.Capped.{alias_counted, member_counted}
 use Rattle.pds_image.proofs.length.body_length.Goals as goal
 

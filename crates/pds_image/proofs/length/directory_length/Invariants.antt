@@ -1,5 +1,5 @@
 use Rattle.std.proofs.Common.{◌≡◌, ◌+◌, ◌++◌, ◌∷◌, [], length, map, drop}
-use Rattle.pds_lib.specs.declared.entry.Entry.{Entry}
+use Rattle.pds_directory.specs.declared.entry.Entry.{Entry}
 use Rattle.pds_image.specs.Lengths.{capped, blocks_length}
 use Rattle.pds_image.specs.Image.{spelled_entry}
 use Rattle.pds_image.proofs.length.directory_length.Given as goal

@@ -1,7 +1,7 @@
 use Rattle.std.proofs.Common.{ap, ◌∙◌, List}
 use Rattle.std.specs.HashMap.{get}
 use Rattle.le_bytes.specs.Names.{name_eq}
-use Rattle.pds_lib.specs.declared.entry.Entry.{Entry}
+use Rattle.pds_directory.specs.declared.entry.Entry.{Entry}
 use Rattle.pds_image.specs.Image.{first_from}
 use Rattle.pds_image.proofs.Walking.{first_step, count_step, first_end}
 use Rattle.pds_image.proofs.members.first_records.Goals as goal

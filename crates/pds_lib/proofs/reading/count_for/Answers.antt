@@ -1,7 +1,7 @@
 use Rattle.std.proofs.Common.{refl, ap, ◌∙◌}
 use Rattle.std.specs.Prelude.{slice_get, option_and_then}
 use Rattle.std.proofs.Common.{ℕ, List}
-use Rattle.pds_lib.specs.Directory.{owner_of}
+use Rattle.pds_directory.specs.Directory.{owner_of}
 use Rattle.pds_lib.proofs.Members.{known_count}
 use Rattle.pds_lib.proofs.reading.count_for.Goals as goal
 

@@ -1,7 +1,7 @@
 use Rattle.std.proofs.Common.{List, ◌∙◌, ap, map, arith}
-use Rattle.pds_lib.specs.declared.entry.Span.{Span}
-use Rattle.pds_lib.specs.Directory.{rules_of}
-use Rattle.pds_lib.specs.Places.{ends_of}
+use Rattle.pds_directory.specs.declared.entry.Span.{Span}
+use Rattle.pds_directory.specs.Directory.{rules_of}
+use Rattle.pds_directory.specs.Places.{ends_of}
 use Rattle.pds_lib.specs.Rows.{row_of}
 use Rattle.pds_lib.proofs.Members.{library_is, rows_there}
 use Rattle.pds_lib.proofs.ReadEntries.{are_bytes}

@@ -1,6 +1,6 @@
 use Rattle.std.proofs.Common.{◌≡◌, drop}
 use Rattle.std.specs.Prelude.{IsTrue}
-use Rattle.pds_lib.specs.Order.{ascends}
+use Rattle.pds_directory.specs.Order.{ascends}
 use Rattle.pds_lib.specs.Stored.{row_name}
 use Rattle.pds_lib.specs.Rows.{row_for}
 use Rattle.pds_lib.specs.Stow.{put_all}

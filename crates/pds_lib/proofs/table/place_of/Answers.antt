@@ -1,6 +1,6 @@
 use Rattle.std.proofs.Common.{sym, arith}
 use Rattle.std.proofs.lemmas.List.Sums.{prefix_len-le-length}
-use Rattle.pds_lib.specs.Parts.{is_below}
+use Rattle.pds_directory.specs.Parts.{is_below}
 use Rattle.pds_lib.specs.Stored.{row_name}
 use Rattle.pds_lib.proofs.Halving.{name_up, name_down}
 use Rattle.pds_lib.proofs.table.place_of.Goals as goal

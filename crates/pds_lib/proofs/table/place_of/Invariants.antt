@@ -1,5 +1,5 @@
 use Rattle.std.proofs.Common.{◌-◌, ◌≤◌, length}
-use Rattle.pds_lib.specs.Order.{place_of}
+use Rattle.pds_directory.specs.Order.{place_of}
 use Rattle.pds_lib.specs.Stored.{row_name}
 use Rattle.pds_lib.proofs.table.place_of.Given as goal
 

@@ -1,6 +1,6 @@
 use Rattle.std.proofs.Common.{◌∙◌, List, sym, ap}
 use Rattle.std.specs.Prelude.{slice_get, option_map, find}
-use Rattle.pds_lib.specs.declared.entry.Entry.{Entry}
+use Rattle.pds_directory.specs.declared.entry.Entry.{Entry}
 use Rattle.pds_lib.specs.declared.table.Row.{Row}
 use Rattle.pds_lib.proofs.Members.{entry_found, slice_get-map, with_name}
 use Rattle.pds_lib.proofs.library.Library.find.Goals as goal

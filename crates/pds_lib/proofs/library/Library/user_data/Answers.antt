@@ -2,7 +2,7 @@ use Rattle.std.proofs.Common.{◌∙◌, List, [], sym, ap, Option}
 use Rattle.std.specs.Prelude.{slice_get, find}
 use Rattle.std.specs.Option.{option_map_or}
 use Rattle.pds_lib.specs.declared.table.Row.{Row}
-use Rattle.pds_lib.specs.Parts.{part}
+use Rattle.pds_directory.specs.Parts.{part}
 use Rattle.pds_lib.proofs.Members.{data_found, with_name}
 use Rattle.pds_lib.proofs.library.Library.user_data.Goals as goal
 

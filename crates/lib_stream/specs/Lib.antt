@@ -1,0 +1,3 @@
+pub mod Sources
+pub mod Agreed
+pub mod Failing

@@ -1,0 +1,9 @@
+pub mod Adding
+pub mod Holding
+pub mod Shifting
+pub mod Standing
+pub mod Stepping
+pub mod Writing
+pub mod Laying
+pub mod Relocating
+pub mod Loading

@@ -1,0 +1,4 @@
+pub mod Blocks
+pub mod Walk
+pub mod Owners
+pub mod Halving

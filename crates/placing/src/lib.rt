@@ -1,0 +1,16 @@
+//! Where the sections of a member may stand in storage: in one block, or each for itself over areas.
+#![tactic(auto)]
+
+mod areas;
+mod extent;
+mod fitting;
+mod kinds;
+mod placement;
+#[cfg(test)]
+mod tests;
+
+pub use areas::{AreaFault, place_sections};
+pub use extent::Extent;
+pub use fitting::fits;
+pub use kinds::is_section;
+pub use placement::{Area, Placement, place_block};

@@ -1,0 +1,4 @@
+pub mod Cut
+pub mod Filled
+pub mod Held
+pub mod Recorded

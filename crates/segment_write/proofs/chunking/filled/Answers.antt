@@ -1,0 +1,16 @@
+use Rattle.std.proofs.Common.{◌≡◌, ◌∷◌, ◌++◌, List, ℕ, All, map, sym, ◌∙◌, subst}
+use Rattle.member_model.specs.Chunks.{chunks, chunk_bytes}
+use Rattle.segment_write.specs.Chunks.{IsChunk}
+use Rattle.segment_write.proofs.Filled.{filled, all_closed}
+use Rattle.segment_write.proofs.Held.{held}
+use Rattle.segment_write.proofs.chunking.filled.Goals as goal
+
+pub returns-clause-value : goal.returns-clause-value
+returns-clause-value c =
+    c.in_ok-push.ensures.ok
+    ∙ all_closed c.args.first c.args.rest.now c.loop-item.made c.loop-item.chunk c.loop-item.item-index c.in_ok-closed.field-0 c.requires.first c.requires.rest
+    c.loop-item.invariant.made c.loop-item-test.false c.in_ok-closed.ensures
+
+pub returns-clause-kept : goal.returns-clause-kept
+returns-clause-kept c =
+    subst (All IsChunk) (sym (returns-clause-value c)) (held c.args.first c.args.rest.now c.requires.first c.requires.rest)

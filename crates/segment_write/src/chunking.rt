@@ -1,0 +1,165 @@
+//! Relocation items in chunks.
+ghost use Rattle.std.specs.Prelude.{◌≡◌, ◌+◌, ◌≤◌, ◌∷◌, [], ◌++◌, false, true, ℕ, List, All, length, map, if◌then◌else◌, IfOk, OnOk};
+ghost use Rattle.load_recs.specs.ItemBytes.{IsRld, rld_item_bytes};
+ghost use Rattle.load_recs.specs.Relocations.{is_joined};
+ghost use Rattle.load_recs.specs.declared.items.RldItem.{RldItem as Item};
+ghost use Rattle.member_model.specs.Chunks.{chunks, chunk_bytes, same_pointers, room_after};
+ghost use Rattle.segment_write.specs.Chunks.{IsItem, IsChunk, told, size, begun, continued, closed, chunks_from};
+
+use le_bytes::{Bytes, Items, Memory};
+use load_recs::{RldItem, put_rld_item};
+use std::alloc::Global;
+
+/// The greatest number of bytes of a chunk.
+const MOST_BYTES: usize = 240;
+
+/// Cuts relocation items into chunks, each of as many items as stand in 240 bytes, in one pass. An
+/// item that has the numbers of the one before it in its chunk does not say them again.
+///
+/// # Errors
+/// Want of memory.
+pub fn chunks(alloc: Global, items: &[RldItem]) -> Result<Items<Bytes>, Memory>
+    requires { All IsItem items.now }
+    ensures value { IfOk result (λ made. made ≡ map chunk_bytes (chunks items.now)) }
+    ensures kept { IfOk result (All IsChunk) }
+{
+    let [first, rest @ ..] = items else {
+        return Ok(Items::new(alloc));
+    };
+    filled(alloc, *first, rest)
+}
+
+/// The chunks of an item and those after it.
+fn filled(alloc: Global, first: RldItem, rest: &[RldItem]) -> Result<Items<Bytes>, Memory>
+    requires first { IsItem first }
+    requires rest { All IsItem rest.now }
+    ensures value { IfOk result (λ made. made ≡ map chunk_bytes (chunks (first ∷ rest.now))) }
+    ensures kept { IfOk result (All IsChunk) }
+{
+    let mut made = Items::new(alloc);
+    let mut chunk = Filling::begun(alloc, first);
+    for item in rest {
+        chunk = with_item(alloc, &mut made, chunk, *item)?;
+    }
+    made.push(chunk.closed()?)?;
+    Ok(made)
+}
+
+/// The chunk with one more item, or, where it has no room for that, a chunk of its own after this one.
+#[tactic(auto, unfolding(crate::specs::Chunks::chunks_from))]
+fn with_item(
+    alloc: Global,
+    made: &mut Items<Bytes>,
+    chunk: Filling,
+    item: RldItem,
+) -> Result<Filling, Memory>
+    requires last { IsItem chunk.last }
+    requires short { size chunk ≤ 240 }
+    ensures chunks { IfOk result (λ next. (rest : List Item) → made.new ++ chunks_from next rest ≡ made.old ++ chunks_from chunk (item ∷ rest)) }
+    ensures last { IfOk result (λ next. next.last ≡ item) }
+    ensures short { IfOk result (λ next. size next ≤ 240) }
+{
+    if MOST_BYTES < chunk.size() + room_after(&chunk.last, &item) {
+        made.push(chunk.closed()?)?;
+        return Ok(Filling::begun(alloc, item));
+    }
+    let mut chunk = chunk;
+    chunk.add(item)?;
+    Ok(chunk)
+}
+
+fn has_same_pointers(x: &RldItem, y: &RldItem) -> bool
+    ensures { result ≡ same_pointers x.now y.now }
+{
+    x.r == y.r && x.p == y.p
+}
+
+/// The bytes that an item takes after another one.
+fn room_after(x: &RldItem, y: &RldItem) -> usize
+    ensures value { result ≡ room_after x.now y.now }
+    ensures most { result ≤ 8 }
+{
+    if has_same_pointers(x, y) { 4 } else { 8 }
+}
+
+/// A chunk that is being filled: the bytes of its items but the last, and the last, which is spelled
+/// once it is known whether the next has the same numbers.
+#[derive(Drop)]
+pub(crate) struct Filling {
+    bytes: Bytes,
+    last: RldItem,
+    short: bool,
+}
+
+impl Filling {
+    fn begun(alloc: Global, item: RldItem) -> Filling
+        ensures { result ≡ begun item }
+    {
+        Filling {
+            bytes: Bytes::new(alloc),
+            last: item,
+            short: false,
+        }
+    }
+
+    /// The bytes of all its items.
+    fn size(&self) -> usize
+        requires { length self.now.bytes ≤ 240 }
+        ensures value { result ≡ size self.now }
+        ensures most { result ≤ 248 }
+    {
+        self.bytes.len() + if self.short { 4 } else { 8 }
+    }
+
+    /// Puts one more item after the last.
+    fn add(&mut self, item: RldItem) -> Result<(), Memory>
+        requires { IsItem self.old.last }
+        ensures { OnOk result (self.new ≡ continued self.old item) }
+    {
+        let joined = has_same_pointers(&self.last, &item);
+        self.spell(joined)?;
+        self.last = item;
+        self.short = joined;
+        Ok(())
+    }
+
+    /// The bytes of all its items.
+    fn closed(mut self) -> Result<Bytes, Memory>
+        requires { IsItem self.last }
+        ensures { IfOk result (λ bytes. bytes ≡ closed self) }
+    {
+        self.spell(false)?;
+        let Filling { bytes, .. } = self;
+        Ok(bytes)
+    }
+
+    /// Spells the last item.
+    fn spell(&mut self, joined: bool) -> Result<(), Memory>
+        requires { IsItem self.old.last }
+        ensures { OnOk result (self.new ≡ record self.old { bytes = self.old.bytes ++ rld_item_bytes self.old.short (told joined self.old.last) }) }
+    {
+        let item = told(self.last, joined);
+        let mut field = [0; 8];
+        let size = if self.short { 4 } else { 8 };
+        let spelled = &mut field[..size];
+        put_rld_item(spelled, &item, self.short);
+        self.bytes.extend(spelled)?;
+        Ok(())
+    }
+}
+
+/// The item, which tells whether the next has the same numbers.
+fn told(item: RldItem, joined: bool) -> RldItem
+    requires { IsItem item }
+    ensures value { result ≡ told joined item }
+    ensures fits { IsRld result }
+{
+    if joined {
+        RldItem {
+            flag: item.flag + 1,
+            ..item
+        }
+    } else {
+        item
+    }
+}

@@ -1,0 +1,16 @@
+//! The records of one segment of a written member: text in pieces, each with the relocation items
+//! that end in it.
+#![tactic(auto)]
+
+mod chunking;
+mod cutting;
+mod piece;
+mod recording;
+#[cfg(test)]
+mod tests;
+mod text;
+
+pub use chunking::chunks;
+pub use cutting::{add_section, add_table};
+pub use piece::{Piece, PlacedPart};
+pub use recording::segment_records;
