@@ -7,13 +7,11 @@ ghost use Rattle.addr_assign.specs.Laid.{are_in_tree, places_of};
 ghost use Rattle.block_storage.specs.Storage.{alone, storage};
 
 use crate::gathering::gathered;
-use crate::laying::stored;
-use crate::moving::moved;
-use le_bytes::{Items, Memory};
-use relocate::relocate_all;
+use crate::relocating::linked_text;
+use le_bytes::Memory;
 use seg_tree::SegTree;
 use std::alloc::Global;
-use sym_mod::{Places, Program, Tables};
+use sym_mod::{Places, Program};
 
 /// The bytes of a program of one segment, linked, where its module stands at `origin`: from the
 /// origin to the module's end, 0 between sections. Linear in bytes, texts and terms.
@@ -34,18 +32,6 @@ pub fn block_bytes(
     requires near { origin + module_length (alone p.now) ≤ 16777215 }
     ensures { IfOk result (λ bytes. bytes.items ≡ storage (alone p.now) origin) }
 {
-    let mut text = stored(alloc, p)?;
-    let addresses = moved(alloc, a, origin)?;
-    let tables = no_entries(alloc)?;
-    relocate_all(&mut text, p, &addresses, tree, &tables);
+    let text = linked_text(alloc, p, tree, a, origin)?;
     gathered(alloc, &text, p, a)
-}
-
-/// The tables of a program of one segment, which has no entries.
-fn no_entries(alloc: Global) -> Result<Tables, Memory>
-    ensures { IfOk result (λ tables. tables.entries ≡ [] ∷ []) }
-{
-    let mut entries = Items::new(alloc);
-    entries.push(Items::new(alloc))?;
-    Ok(Tables { entries })
 }

@@ -1,6 +1,8 @@
-pub mod Blocks
-pub mod Entries
-pub mod Lists
+pub mod Decided
+pub mod LibraryKinds
+pub mod Names
+pub mod OutputSets
 pub mod Refusals
-pub mod Rooted
+pub mod SetsRead
 pub mod Statuses
+pub mod StowedModules

@@ -1,14 +1,16 @@
--- What each status says of the printed text, of the store and of the sink.
-use Rattle.std.specs.Prelude.{◌≡◌, ◌⊎◌, ℕ, List, [], ◌++◌, take, Option, Some, unwrap_or}
+-- What each status says of the printed text, of the files, of the store and of the sink.
+use Rattle.std.specs.Prelude.{◌≡◌, ◌⊎◌, ℕ, List, ◌++◌, take, Option, Some, None, IsSomeAnd, Result, Ok, Err}
 use Rattle.le_bytes.specs.declared.refusal.Refusal.{Refusal}
 use Rattle.le_bytes.specs.declared.refusal.Refusal.TheVariants as refusal
-use Rattle.le_bytes.specs.declared.name.Name.{Name}
-use Rattle.command_words.specs.Meaning.{path_of}
-use Rattle.le_io.specs.Counts.{Counts, Rose, NoFault, FaultsRose, MissesRose, LongsRose}
+use Rattle.command_words.specs.Keys.{syslmod}
+use Rattle.le_io.specs.Counts.{Files, Counts, Rose, NoFault, FaultsRose, PutFaultsRose, MissesRose, LongsRose}
+use Rattle.le_io.specs.Reads.{OthersStay}
 use Rattle.linkedit_top.specs.declared.status.Status.{Status}
 use Rattle.linkedit_top.specs.declared.status.Status.TheVariants as status
 use Rattle.linkedit_top.specs.declared.status.Fault.TheVariants as fault
 use Rattle.linkedit_top.specs.declared.answer.Answer.{Answer}
+use Rattle.linkedit_top.specs.declared.answer.Put.{Put}
+use Rattle.linkedit_top.specs.Sets.{path_for}
 
 -- ---- what is printed
 
@@ -28,11 +30,27 @@ Prints before after answer (status.Fault _) = after ≡ Some before
 Prints before after answer status.Memory = after ≡ Some before
 Prints before after answer result = (result ≡ answer.status) × GainsAll before after answer.text
 
--- ---- the store
+-- ---- the files
 
--- the path of the data set with this data definition name
-abbrev pub path_for : List (List ℕ) → Name → List ℕ
-path_for words dd = unwrap_or (path_of words dd) []
+-- the image stands at the path of its data set, and all else is as before; without a put all is
+abbrev pub Holds : List (List ℕ) → Files → Files → Option Put → Type 0
+Holds words before after None = after ≡ before
+Holds words before after (Some put) =
+    (after (path_for words put.dd) ≡ Some put.image) × OthersStay before after (path_for words put.dd)
+
+-- anything may stand at the path of the put, and all else is as before
+abbrev pub HoldsAnything : List (List ℕ) → Files → Files → Option Put → Type 0
+HoldsAnything words before after put = IsSomeAnd put (λ x. OthersStay before after (path_for words x.dd))
+
+-- nothing is put where a read failed or memory is wanting, anything may stand where the put failed, and else exactly
+-- the answer's image is put
+abbrev pub FilesAfter : List (List ℕ) → Files → Files → Answer → Status → Type 0
+FilesAfter words before after answer (status.Fault (fault.Read _)) = after ≡ before
+FilesAfter words before after answer (status.Fault (fault.Write _)) = HoldsAnything words before after answer.put
+FilesAfter words before after answer status.Memory = after ≡ before
+FilesAfter words before after answer result = Holds words before after answer.put
+
+-- ---- the store
 
 -- which count of the store a refusal raised
 abbrev pub RefusalHasCause : Counts → Counts → List (List ℕ) → Refusal → Type 0
@@ -40,10 +58,11 @@ RefusalHasCause old new words (refusal.SetAbsent dd) = MissesRose old new (path_
 RefusalHasCause old new words (refusal.TooLong dd) = LongsRose old new (path_for words dd)
 RefusalHasCause old new words _ = Unit {0}
 
--- a fault of a read comes where a read of that data set failed, none of a put comes, and no failed call is passed over
+-- a fault of a read comes where a read of that data set failed, one of a put where the put of SYSLMOD did, and no
+-- failed call is passed over
 abbrev pub StoreHasCause : Counts → Counts → List (List ℕ) → Status → Type 0
 StoreHasCause old new words (status.Fault (fault.Read dd)) = FaultsRose old new (path_for words dd)
-StoreHasCause old new words (status.Fault (fault.Write dd)) = ⊥
+StoreHasCause old new words (status.Fault (fault.Write dd)) = (dd ≡ syslmod) × PutFaultsRose old new (path_for words dd)
 StoreHasCause old new words (status.Refused r) = NoFault old new × RefusalHasCause old new words r
 StoreHasCause old new words _ = NoFault old new
 
@@ -54,6 +73,25 @@ abbrev pub SinkHasCause : ℕ → ℕ → Status → Type 0
 SinkHasCause old new (status.Fault fault.Print) = Rose old new
 SinkHasCause old new _ = new ≡ old
 
+-- ---- completeness
+
+-- no count of faults of the store or the sink rose
+pub record NoneRose (old new : Counts) (before after : ℕ) : Type 0 where
+  pub reads : (path : List ℕ) → FaultsRose old new path → ⊥
+  pub puts : (path : List ℕ) → PutFaultsRose old new path → ⊥
+  pub writes : Rose before after → ⊥
+
+-- the status is that of the answer, but for a fault and want of memory
+abbrev pub HasStatus : Status → Status → Type 0
+HasStatus answered (status.Fault _) = Unit {0}
+HasStatus answered status.Memory = Unit {0}
+HasStatus answered result = result ≡ answered
+
+-- where no count rose it is that of the answer, or memory is wanting
+abbrev pub Completes : Counts → Counts → ℕ → ℕ → Status → Status → Type 0
+Completes old new before after answered result =
+    NoneRose old new before after → (result ≡ answered) ⊎ (result ≡ status.Memory)
+
 -- ---- answers
 
 -- a status that an answer may have
@@ -62,13 +100,18 @@ IsFinal (status.Fault _) = ⊥
 IsFinal status.Memory = ⊥
 IsFinal _ = Unit {0}
 
--- a refusal of the input itself, and not of a set that is wanting or too long
+-- a refusal of what the data sets hold, and not of a set that is wanting or too long
 abbrev pub IsOwnRefusal : Refusal → Type 0
 IsOwnRefusal (refusal.SetAbsent _) = ⊥
 IsOwnRefusal (refusal.TooLong _) = ⊥
 IsOwnRefusal _ = Unit {0}
 
--- a status that the bytes of the primary input give
+-- a refusal, if it is one, is of what the data sets hold
+abbrev pub IsOwnResult : {A : Type 0} → Result A Refusal → Type 0
+IsOwnResult (Ok x) = Unit {0}
+IsOwnResult (Err refusal) = IsOwnRefusal refusal
+
+-- a status that the bytes of the data sets give
 abbrev pub IsOwn : Status → Type 0
 IsOwn (status.Fault _) = ⊥
 IsOwn status.Memory = ⊥

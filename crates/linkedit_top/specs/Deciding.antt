@@ -1,14 +1,22 @@
 -- What an answer, or a stop before it, says of the files and of the store's counts.
-use Rattle.std.specs.Prelude.{◌≡◌, ℕ, List, Result, Ok, Err}
-use Rattle.le_bytes.specs.declared.refusal.Refusal.TheVariants.{SetAbsent, TooLong}
-use Rattle.le_io.specs.Counts.{Counts, NoFault, FaultsRose, MissesRose, LongsRose}
+use Rattle.std.specs.Prelude.{◌≡◌, ℕ, ◌≤◌, List, ◌++◌, ◌∷◌, [], length, Option, Some, None, Result, Ok, Err, IfSome}
+use Rattle.le_bytes.specs.declared.refusal.Refusal.{Refusal}
+use Rattle.le_io.specs.Counts.{Counts, NoFault, FaultsRose}
+use Rattle.command_words.specs.Keys.{syslmod}
+use Rattle.pds_directory.specs.declared.kinds.LibKind.TheVariants.{Modules}
+use Rattle.pds_lib.specs.declared.set.Body.{Body}
+use Rattle.pds_lib.specs.declared.set.Body.TheVariants.{Cards, Lib}
+use Rattle.pds_lib.specs.declared.set.Set.{Set}
 use Rattle.linkedit_top.specs.declared.answer.Answer.{Answer}
-use Rattle.linkedit_top.specs.declared.status.Status.{Status}
-use Rattle.linkedit_top.specs.declared.status.Status.TheVariants.{Refused}
 use Rattle.linkedit_top.specs.declared.stop.Stop.{Stop}
 use Rattle.linkedit_top.specs.declared.stop.Stop.TheVariants.{Read, Memory}
-use Rattle.command_words.specs.Keys.{syslin}
-use Rattle.linkedit_top.specs.Causes.{path_for, StoreHasCause, IsFinal, IsOwn}
+use Rattle.pds_lib.specs.Contents.{Contents}
+use Rattle.link_core.specs.declared.linked.Linked.{Linked}
+use Rattle.linkedit_top.specs.Sets.{path_for, set_limit}
+use Rattle.linkedit_top.specs.Link.{with_module}
+use Rattle.linkedit_top.specs.Causes.{StoreHasCause, RefusalHasCause, IsFinal}
+
+-- ---- answers
 
 -- the answer is this one, unless there is none
 abbrev pub Decides : Answer → Result Answer Stop → Type 0
@@ -21,14 +29,37 @@ HasCause old new words (Ok found) = NoFault old new × StoreHasCause old new wor
 HasCause old new words (Err (Read dd)) = FaultsRose old new (path_for words dd)
 HasCause old new words (Err Memory) = NoFault old new
 
--- the same of `go`, by the path of its primary input: only a set that is wanting or too long is a refusal not its own
-abbrev pub GoStatusHasCause : Counts → Counts → List ℕ → Status → Type 0
-GoStatusHasCause old new path (Refused (SetAbsent dd)) = (dd ≡ syslin) × MissesRose old new path
-GoStatusHasCause old new path (Refused (TooLong dd)) = (dd ≡ syslin) × LongsRose old new path
-GoStatusHasCause old new path status = IsOwn status
+-- what is put is SYSLMOD
+abbrev pub PutsOutput : Answer → Type 0
+PutsOutput answer = IfSome answer.put (λ put. put.dd ≡ syslmod)
 
--- the same of what `go` answers
-abbrev pub GoHasCause : Counts → Counts → List ℕ → Result Answer Stop → Type 0
-GoHasCause old new path (Ok found) = NoFault old new × GoStatusHasCause old new path found.status
-GoHasCause old new path (Err (Read dd)) = (dd ≡ syslin) × FaultsRose old new path
-GoHasCause old new path (Err Memory) = NoFault old new
+-- ---- data sets
+
+-- the set that a word names, if it names one, comes after the others, or is refused
+abbrev pub Takes : Option (Result Set Refusal) → List Set → List Set → Result (Unit {0}) Refusal → Type 0
+Takes None old new result = (result ≡ Ok tt) × (new ≡ old)
+Takes (Some (Ok found)) old new result = (result ≡ Ok tt) × (new ≡ old ++ found ∷ [])
+Takes (Some (Err refusal)) old new result = result ≡ Err refusal
+
+-- a stop at a read has a failed read of its data set, a refusal its cause, and nothing else has a failed read
+abbrev pub SetsHaveCause : {A : Type 0} → Counts → Counts → List (List ℕ) → Result (Result A Refusal) Stop → Type 0
+SetsHaveCause old new words (Ok (Ok _)) = NoFault old new
+SetsHaveCause old new words (Ok (Err refusal)) = NoFault old new × RefusalHasCause old new words refusal
+SetsHaveCause old new words (Err (Read dd)) = FaultsRose old new (path_for words dd)
+SetsHaveCause old new words (Err Memory) = NoFault old new
+
+-- cards of a set that is not too long, or a library of load modules
+abbrev pub IsReadBody : Body → Type 0
+IsReadBody (Cards bytes) = length bytes ≤ set_limit
+IsReadBody (Lib lib) = lib.kind ≡ Modules
+
+-- so it is with a set by its name
+abbrev pub IsReadSet : Set → Type 0
+IsReadSet x = IsReadBody x.body
+
+-- ---- stowing
+
+-- the library has the load module, or it is refused
+abbrev pub StowsModule : Contents → Linked → Contents → Result (Unit {0}) Refusal → Type 0
+StowsModule old x new (Ok _) = with_module old x ≡ Ok new
+StowsModule old x new (Err refusal) = with_module old x ≡ Err refusal

@@ -1,106 +1,69 @@
--- What `go` answers and prints for the bytes of its primary input, an origin, and with or without LET.
-use Rattle.std.specs.Prelude.{ℕ, ◌+◌, ◌%◌, Bool, ◌&&◌, ◌==◌, nat_le, if◌then◌else◌, List, [], ◌∷◌, ◌++◌, flat_map, codes, Option, Some, None, Result, Ok, Err}
-use Rattle.std.specs.List.{list_any}
-use Rattle.le_bytes.specs.declared.card_what.CardWhat.{CardWhat}
+-- What `go` answers, prints and puts for its data sets.
+use Rattle.std.specs.Prelude.{ℕ, ◌-◌, Bool, List, ◌++◌, length, slice_get, is_some, Result, Ok, Err}
+use Rattle.std.specs.Option.{option_map_or}
+use Rattle.le_bytes.specs.declared.name.Name.{Name}
 use Rattle.le_bytes.specs.declared.refusal.Refusal.{Refusal}
-use Rattle.le_bytes.specs.declared.refusal.Refusal.TheVariants.{Card, Symbol, Limit, Place}
-use Rattle.le_bytes.specs.declared.refusal.SymbolWhat.TheVariants as symbol
-use Rattle.le_bytes.specs.declared.refusal.Counted.TheVariants as counted
-use Rattle.le_bytes.specs.declared.record_what.PlaceWhat.TheVariants.{BadOrigin}
-use Rattle.command_words.specs.Keys.{syslin, tempname}
-use Rattle.map_list.specs.Printed.{printed_name, decimal, line}
-use Rattle.map_list.specs.Lines.{linked_line, unresolved_line, entry_line, refusal_line}
-use Rattle.map_list.specs.Dumps.{dump_text}
-use Rattle.sym_mod.specs.declared.program.Program.{Program}
-use Rattle.sym_mod.specs.declared.program.Unknown.{Unknown}
-use Rattle.linking_model.specs.Kept.{Read}
-use Rattle.linking_model.specs.Places.{module_length}
-use Rattle.block_storage.specs.Storage.{alone, storage}
-use Rattle.deck_steps.specs.Decks.{decks_of}
-use Rattle.deck_steps.specs.declared.fault.DeckFault.{DeckFault}
-use Rattle.deck_steps.specs.declared.fault.DeckFault.TheVariants.{Card as FaultyCard, Statement, DoubleDefinition, TooManySymbols}
+use Rattle.command_words.specs.Keys.{syslmod, tempname}
+use Rattle.command_words.specs.Meaning.{origin_of, path_of}
+use Rattle.pds_lib.specs.declared.set.Set.{Set}
+use Rattle.pds_lib.specs.Contents.{Contents}
+use Rattle.map_list.specs.Lines.{refusal_line}
+use Rattle.link_core.specs.declared.linked.Linked.{Linked}
+use Rattle.link_core.specs.Linking.{Linking, LinkedModules, Refuses, StatementAt, linking}
+use Rattle.link_core.specs.Sets.{primary_cards}
 use Rattle.linkedit_top.specs.declared.status.Status.{Status}
-use Rattle.linkedit_top.specs.declared.status.Status.TheVariants.{Done, DoneWithUnresolved, Refused, NotBuilt as UnbuiltForm}
+use Rattle.linkedit_top.specs.declared.status.Status.TheVariants.{Refused}
 use Rattle.linkedit_top.specs.declared.answer.Answer.{Answer}
-use Rattle.linkedit_top.specs.Linked.{root_program, entry_address, is_wanting, link_refusal}
+use Rattle.linkedit_top.specs.Refusing.{refused, unbuilt_card}
+use Rattle.linkedit_top.specs.Sets.{new_version}
+use Rattle.linkedit_top.specs.Link.{earlier_refusal, library_answer, linking_options, listings, output_in, status_for, with_modules}
+use Rattle.linkedit_top.specs.Fetch.{member_text}
 
--- ---- refusals
+-- SYSLMOD is named
+abbrev pub names_output : List (List ℕ) → Bool
+names_output words = is_some (path_of words syslmod)
 
--- a refusal: its status and its line
-unfoldable pub refused : Refusal → Answer
-refused r = record { status = Refused r; text = refusal_line r }
+-- the name of the last load module; there always is one
+abbrev pub last_name : List Linked → Name
+last_name modules = option_map_or (λ (x : Linked). x.member.name) (slice_get modules (length modules - 1)) tempname
 
--- a card of the primary input, by its number
-abbrev pub faulty_card : ℕ → CardWhat → Refusal
-faulty_card number what = Card (record { set = syslin; member = None; number = number }) what
+-- ---- the placed member
 
--- words that ask for what is not built
-abbrev pub unbuilt_line : List ℕ
-unbuilt_line = line (codes "REFUSED") (codes "NOTBUILT" ∷ [])
+-- the status of a member that is placed, or is not
+abbrev pub placed_status : Status → Result (List ℕ) Refusal → Status
+placed_status status (Ok text) = status
+placed_status status (Err refusal) = Refused refusal
 
--- a card of the primary input that begins what is not built
-abbrev pub unbuilt_card_line : ℕ → List ℕ
-unbuilt_card_line number =
-    line (codes "REFUSED") (codes "CARD" ∷ printed_name syslin ∷ decimal number ∷ codes "NOTBUILT" ∷ [])
+-- its lines, or that of why it is not placed
+abbrev pub placed_lines : Result (List ℕ) Refusal → List ℕ
+placed_lines (Ok text) = text
+placed_lines (Err refusal) = refusal_line refusal
 
--- the answer to words that ask for what is not built
-unfoldable pub unbuilt : Answer
-unbuilt = record { status = UnbuiltForm None; text = unbuilt_line }
-
--- the answer at a card that begins what is not built
-unfoldable pub unbuilt_card : ℕ → Answer
-unbuilt_card number = record { status = UnbuiltForm (Some number); text = unbuilt_card_line number }
-
--- ---- a linked program in one block
-
--- a block stands at a multiple of 8 and ends at no more than 16,777,215
-abbrev pub is_block : ℕ → ℕ → Bool
-is_block origin size = origin % 8 == 0 && nat_le (origin + size) 16777215
-
--- a name that has to be resolved has a line, and a weak one has none
-abbrev pub name_line : Unknown → List ℕ
-name_line x = if x.weak then [] else unresolved_line x.name
-
--- the module: its length, its entry point and what is unresolved
-unfoldable pub linked_text : Program → List ℕ
-linked_text p =
-    linked_line tempname (module_length (alone p)) (entry_address p 0) ++ flat_map name_line p.unresolved
-
--- where it is entered in storage, and what stands there
-unfoldable pub placed_text : Program → ℕ → List ℕ
-placed_text p origin =
-    entry_line (entry_address p origin) ++ dump_text origin (storage (alone p) origin)
-
--- done, with or without names that have to be resolved and are not
-abbrev pub status_of : Program → Status
-status_of p = if list_any is_wanting p.unresolved then DoneWithUnresolved else Done
-
--- the lines of the linked program, and of its storage or why it is not placed
-unfoldable pub run_of : Program → ℕ → Answer
-run_of p origin =
-    if is_block origin (module_length (alone p))
-    then record { status = status_of p; text = linked_text p ++ placed_text p origin }
-    else record { status = Refused (Place BadOrigin); text = linked_text p ++ refusal_line (Place BadOrigin) }
-
--- the refusal of a program, or its run
-abbrev pub unless_refused : Program → ℕ → Option Refusal → Answer
-unless_refused p origin (Some refusal) = refused refusal
-unless_refused p origin None = run_of p origin
+-- the answer for the library that has the load modules: the lines of the member of this name come after theirs
+abbrev pub placed_answer : List (List ℕ) → Name → Status → List ℕ → Contents → Answer
+placed_answer words name status text lib =
+    let placed = member_text lib name (origin_of words) in
+    library_answer (names_output words) (placed_status status placed) (text ++ placed_lines placed) lib
 
 -- ---- the command
 
--- what the primary input has that is no list of decks that merge
-abbrev pub decks_refused : DeckFault → Answer
-decks_refused (FaultyCard number what) = refused (faulty_card number what)
-decks_refused (Statement number) = unbuilt_card number
-decks_refused (DoubleDefinition name) = refused (Symbol name symbol.DoubleDefinition)
-decks_refused (TooManySymbols n) = refused (Limit counted.Symbols n)
+-- of the library with the load modules, of which the last is placed, or of the refusal of a stow
+abbrev pub placed_or : List (List ℕ) → List Linked → Result Contents Refusal → Answer
+placed_or words modules (Ok lib) = placed_answer words (last_name modules) (status_for modules) (listings modules) lib
+placed_or words modules (Err refusal) = refused refusal
 
--- the answer for the modules of the decks, or for what is refused of them
-abbrev pub run_decks : ℕ → Bool → Result (List Read) DeckFault → Answer
-run_decks origin let_on (Err fault) = decks_refused fault
-run_decks origin let_on (Ok rs) = let p = root_program rs in unless_refused p origin (link_refusal p let_on)
+-- of the load modules, for this library: they are stowed as `link` stows them, and then the last is placed
+abbrev pub run_of : List (List ℕ) → Contents → List Linked → Answer
+run_of words lib modules = placed_or words modules (with_modules lib modules)
 
--- the answer for the bytes of the primary input, with or without LET
-abbrev pub go : List ℕ → ℕ → Bool → Answer
-go bytes origin let_on = run_decks origin let_on (decks_of bytes)
+-- of what linking came to
+abbrev pub going : List (List ℕ) → Contents → Linking → Answer
+going words lib (LinkedModules modules) = run_of words lib modules
+going words lib (Refuses refusal before) = refused (earlier_refusal (with_modules lib before) refusal)
+going words lib (StatementAt number) = unbuilt_card number
+
+-- the answer for the data sets
+abbrev pub go : List (List ℕ) → List Set → Answer
+go words sets =
+    let lib = output_in (new_version words) sets in
+    going words lib (linking (linking_options words lib.version) (primary_cards sets))

@@ -1,7 +1,10 @@
 pub mod Causes
 pub mod Deciding
+pub mod Ending
 pub mod Exits
+pub mod Fetch
 pub mod Go
-pub mod Linked
-pub mod Links
+pub mod Link
 pub mod Outcome
+pub mod Refusing
+pub mod Sets

@@ -1,126 +1,123 @@
-//! What the words ask for, decided before anything is printed.
-ghost use Rattle.std.specs.Prelude.{◌≡◌, map, string_bytes};
+//! What good words ask for, decided before anything is put or printed.
+ghost use Rattle.std.specs.Prelude.{◌≡◌, ◌||◌, All, IfOk, Some, map, string_bytes};
 ghost use Rattle.std.specs.List.{list_all};
 ghost use Rattle.le_io.specs.Counts.{NoneFalls, WhereTold};
-ghost use Rattle.command_words.specs.Settings.{text_of};
-ghost use Rattle.linkedit_top.specs.Outcome.{outcome, good_words, built_path, is_built_request, are_built_settings, is_built_setting, are_built_options, read_input};
-ghost use Rattle.linkedit_top.specs.Deciding.{Decides, HasCause, GoHasCause};
+ghost use Rattle.command_words.specs.Keys.{syslin, syslmod, member, origin, parm};
+ghost use Rattle.command_words.specs.Meaning.{command_of};
+ghost use Rattle.command_words.specs.Word.{has_key};
+ghost use Rattle.linkedit_top.specs.Causes.{IsOwn};
+ghost use Rattle.linkedit_top.specs.Outcome.{are_built_options, are_built_settings, command_answer, good_words, is_built, is_built_setting};
+ghost use Rattle.linkedit_top.specs.Deciding.{Decides, HasCause, IsReadSet, PutsOutput};
 
 use crate::answer::Answer;
+use crate::fetching::fetch;
 use crate::going::go;
-use crate::refusing::{bad_words, refused, unbuilt};
+use crate::linking::link;
+use crate::reading::read_sets;
+use crate::refusing::{refused, unbuilt};
 use crate::stop::Stop;
-use command_words::keys::{ORIGIN, PARM, SYSLIN};
-use command_words::{Command, Options, Request, has_key, read_words};
-use le_bytes::{Memory, Refusal};
-use le_io::{ReadStop, Store, read_all};
+use command_words::keys::{MEMBER, ORIGIN, PARM, SYSLIN, SYSLMOD};
+use command_words::{Command, Options, Request, has_key};
+use le_bytes::{Items, Memory};
+use le_io::Store;
+use pds_lib::Set;
 use std::alloc::Global;
 
-/// The answer to the words.
-#[tactic(auto, unfolding(crate::specs::Outcome::outcome))]
-pub fn answer<S: Store>(alloc: Global, words: &[String], store: &mut S) -> Result<Answer, Stop>
-    ensures answer { WhereTold (S.told store.old) (λ files. Decides (outcome (map string_bytes words.now) files) result) }
-    ensures told { S.told store.new ≡ S.told store.old }
-    ensures counts { NoneFalls (S.counts store.old) (S.counts store.new) }
-    ensures cause { HasCause (S.counts store.old) (S.counts store.new) (map string_bytes words.now) result }
-{
-    match read_words(words) {
-        Ok(request) => good_words(alloc, &request, store),
-        Err(bad) => Ok(bad_words(alloc, bad)?),
-    }
-}
-
 /// The answer to good words.
-fn good_words<S: Store>(alloc: Global, request: &Request<'_>, store: &mut S) -> Result<Answer, Stop>
+///
+/// # Errors
+/// A failed read; want of memory.
+#[tactic(auto, using(crate::proofs::Decided::decided, crate::proofs::Decided::declined, crate::proofs::Decided::not_built, crate::proofs::Statuses::own_cause, crate::proofs::Statuses::own_final))]
+pub fn answer<S: Store>(alloc: Global, request: &Request<'_>, store: &mut S) -> Result<Answer, Stop>
     ensures answer { WhereTold (S.told store.old) (λ files. Decides (good_words (map string_bytes request.now.words.now) files) result) }
+    ensures put { IfOk result PutsOutput }
     ensures told { S.told store.new ≡ S.told store.old }
     ensures counts { NoneFalls (S.counts store.old) (S.counts store.new) }
     ensures cause { HasCause (S.counts store.old) (S.counts store.new) (map string_bytes request.now.words.now) result }
 {
-    match built_path(request) {
-        Some(path) => go_path(
-            alloc,
-            path,
-            request.origin(),
-            request.options().let_on,
-            store,
-        ),
-        None => Ok(unbuilt(alloc)?),
+    if !is_built(request) {
+        return Ok(unbuilt(alloc)?);
+    }
+    match read_sets(alloc, request, store) {
+        Ok(Ok(sets)) => Ok(command_answer(alloc, request, sets)?),
+        Ok(Err(refusal)) => Ok(refused(alloc, refusal)?),
+        Err(stop) => Err(stop),
     }
 }
 
-/// The path of the primary input, where the words ask for what is built.
-fn built_path<'a>(request: &Request<'a>) -> Option<&'a str>
-    ensures { text_of result ≡ built_path (map string_bytes request.now.words.now) }
+/// The answer of the command for its data sets.
+fn command_answer(alloc: Global, request: &Request<'_>, sets: Items<Set>) -> Result<Answer, Memory>
+    requires { All IsReadSet sets }
+    ensures answer { IfOk result (λ answer. answer ≡ command_answer (Some request.now.command) (map string_bytes request.now.words.now) sets) }
+    ensures own { IfOk result (λ answer. IsOwn answer.status) }
+    ensures put { IfOk result PutsOutput }
 {
-    if is_built_request(request) {
-        request.path(SYSLIN)
-    } else {
-        None
+    match request.command {
+        Command::Go => go(alloc, request, sets),
+        Command::Link => link(alloc, request, sets),
+        Command::Fetch => fetch(alloc, request, sets),
+        _ => unbuilt(alloc),
     }
 }
 
-/// Whether the words are `go` with SYSLIN, and with ORIGIN and PARM=LET at most.
-fn is_built_request(request: &Request<'_>) -> bool
-    ensures { result ≡ is_built_request (map string_bytes request.now.words.now) }
+/// Whether the words ask for what is built.
+fn is_built(request: &Request<'_>) -> bool
+    ensures { result ≡ is_built (map string_bytes request.now.words.now) }
 {
-    request.command == Command::Go
-        && are_built_settings(request.words)
-        && are_built_options(request.options())
+    are_built_settings(request.command, request.words) && are_built_options(request.options())
 }
 
-/// Whether every word after the command gives SYSLIN, ORIGIN or PARM.
-fn are_built_settings(words: &[String]) -> bool
+/// Whether every word after the command gives a key that is built for it.
+fn are_built_settings(command: Command, words: &[String]) -> bool
+    requires { command_of (map string_bytes words.now) ≡ Some command }
     ensures { result ≡ are_built_settings (map string_bytes words.now) }
 {
     match words {
         [] => true,
-        [_, settings @ ..] => are_all_built(settings),
+        [_, settings @ ..] => are_all_built(command, settings),
     }
 }
 
-fn are_all_built(settings: &[String]) -> bool
-    ensures { result ≡ list_all is_built_setting (map string_bytes settings.now) }
+fn are_all_built(command: Command, settings: &[String]) -> bool
+    ensures { result ≡ list_all (is_built_setting (Some command)) (map string_bytes settings.now) }
 {
     for setting in settings {
-        if !is_built_setting(setting.as_str()) {
+        if !is_built_setting(command, setting.as_str()) {
             return false;
         }
     }
     true
 }
 
-fn is_built_setting(word: &str) -> bool
-    ensures { result ≡ is_built_setting word.now }
+/// Whether a word gives a key that is built for the command.
+fn is_built_setting(command: Command, word: &str) -> bool
+    ensures { result ≡ is_built_setting (Some command) word.now }
 {
-    has_key(SYSLIN, word) || has_key(ORIGIN, word) || has_key(PARM, word)
+    match command {
+        Command::Go => has_linking_key(word) || has_key(ORIGIN, word),
+        Command::Link => has_linking_key(word),
+        Command::Fetch => has_fetching_key(word),
+        _ => false,
+    }
 }
 
-/// Whether LET at most is on.
+/// Whether a word gives a key that is built for both commands that link.
+fn has_linking_key(word: &str) -> bool
+    ensures { result ≡ (has_key syslin word.now || has_key syslmod word.now || has_key member word.now || has_key parm word.now) }
+{
+    has_key(SYSLIN, word) || has_key(SYSLMOD, word) || has_key(MEMBER, word) || has_key(PARM, word)
+}
+
+/// Whether a word gives a key that is built for `fetch`.
+fn has_fetching_key(word: &str) -> bool
+    ensures { result ≡ (has_key syslmod word.now || has_key member word.now || has_key origin word.now) }
+{
+    has_key(SYSLMOD, word) || has_key(MEMBER, word) || has_key(ORIGIN, word)
+}
+
+/// Whether LET and DCBS at most are on.
 fn are_built_options(o: Options) -> bool
     ensures { result ≡ are_built_options o }
 {
-    !(o.map || o.xref || o.ncal || o.xcal || o.ovly || o.sctr || o.dcbs || o.rent)
-}
-
-/// The answer to `go` over the set at `path`.
-fn go_path<S: Store>(
-    alloc: Global,
-    path: &str,
-    origin: u32,
-    let_on: bool,
-    store: &mut S,
-) -> Result<Answer, Stop>
-    ensures answer { WhereTold (S.told store.old) (λ files. Decides (read_input (files path.now) origin let_on) result) }
-    ensures told { S.told store.new ≡ S.told store.old }
-    ensures counts { NoneFalls (S.counts store.old) (S.counts store.new) }
-    ensures cause { GoHasCause (S.counts store.old) (S.counts store.new) path.now result }
-{
-    match read_all(alloc, store, path) {
-        Ok(bytes) => Ok(go(alloc, &bytes, origin, let_on)?),
-        Err(ReadStop::Absent) => Ok(refused(alloc, Refusal::SetAbsent(SYSLIN))?),
-        Err(ReadStop::TooLong) => Ok(refused(alloc, Refusal::TooLong(SYSLIN))?),
-        Err(ReadStop::Failed) => Err(Stop::Read(SYSLIN)),
-        Err(ReadStop::Memory) => Err(Stop::Memory),
-    }
+    !(o.map || o.xref || o.ncal || o.xcal || o.ovly || o.sctr || o.rent)
 }

@@ -1,144 +1,82 @@
-//! Merged modules linked: resolved, and given addresses.
-ghost use Rattle.std.specs.Prelude.{◌≡◌, ◌∷◌, [], All, IfOk, IsTrue, option_map};
+//! The command `link` over its data sets.
+ghost use Rattle.std.specs.Prelude.{◌≡◌, ◌==◌, not, All, IfOk, length, map, string_bytes};
 ghost use Rattle.std.specs.List.{list_any};
-ghost use Rattle.sym_mod.specs.Sound.{IsSoundProgram};
-ghost use Rattle.linking_model.specs.Tree.{plain};
-ghost use Rattle.addr_assign.specs.Laid.{are_in_tree};
-ghost use Rattle.deck_steps.specs.Answers.{IsInRoot};
-ghost use Rattle.linkedit_top.specs.Linked.{first_wanting, is_wanting, name_refusal};
-ghost use Rattle.linkedit_top.specs.Links.{Settles, Assigns, Links};
+ghost use Rattle.linkedit_top.specs.Causes.{IsOwn};
+ghost use Rattle.linkedit_top.specs.Deciding.{IsReadSet, PutsOutput};
+ghost use Rattle.linkedit_top.specs.Link.{link, listings, status_for};
 
-use addr_assign::{AssignFault, SettleFault, assign, settle};
-use esd_merge::Merged;
-use le_bytes::{Counted, Items, Memory, Name, Refusal, SymbolWhat};
-use seg_tree::SegTree;
-use std::alloc::Global;
-use sym_mod::{Places, Program, Tables};
+use crate::answer::Answer;
+use crate::outputs::{linking_options, output_in, output_version};
+use crate::reading::new_version;
+use crate::refusing::unbuilt_card;
+use crate::status::Status;
+use crate::stowing::{refused_after, stowed};
+use command_words::Request;
+use le_bytes::{Items, Memory};
+use link_core::{LinkFault, Linked, link as link_sets};
+use pds_lib::Set;
+use std::alloc::{AllocError, Global};
 
-/// A linked program: its segments, of which there is one, and its addresses.
-#[derive(Drop)]
-pub struct Linked {
-    pub program: Program,
-    pub tree: SegTree,
-    pub places: Places,
-}
-
-/// Why modules are not linked.
-#[derive(Clone, Copy, Debug, PartialEq, Eq)]
-pub enum LinkStop {
-    Refused(Refusal),
-    Memory,
-}
-
-impl From<Memory> for LinkStop {
-    ghost use Rattle.std.specs.Prelude.{◌≡◌};
-    ghost use Rattle.linkedit_top.specs.declared.linking.LinkStop.TheVariants.{Memory as NoMemory};
-
-    ghost from_gives = { λ _ e. e ≡ NoMemory };
-
-    fn from(_refused: Memory) -> LinkStop {
-        LinkStop::Memory
-    }
-}
-
-/// Merged modules as a linked program, with or without LET.
-///
-/// Cost: that of the merge's program, of settling and of assigning, and linear in the unresolved names.
+/// The answer of `link` for its data sets.
 ///
 /// # Errors
-/// The first of these refusals, or want of memory: there is no section; without LET a name is not
-/// resolved that has to be, the first of these; the registers have more than 16,777,215 bytes; the
-/// module has more than 4,194,304.
-#[tactic(auto, unfolding(crate::specs::Linked::link_refusal))]
-pub fn link(alloc: Global, merged: Merged, let_on: bool) -> Result<Linked, LinkStop>
-    requires { All IsInRoot merged }
-    ensures { Links merged let_on result }
+/// Want of memory.
+#[tactic(auto, using(crate::proofs::OutputSets::primary_short, crate::proofs::Names::not_last, crate::proofs::Refusals::own_linking, crate::proofs::Refusals::none_before))]
+pub fn link(alloc: Global, request: &Request<'_>, sets: Items<Set>) -> Result<Answer, Memory>
+    requires { All IsReadSet sets }
+    ensures answer { IfOk result (λ answer. answer ≡ link (map string_bytes request.now.words.now) sets) }
+    ensures own { IfOk result (λ answer. IsOwn answer.status) }
+    ensures put { IfOk result PutsOutput }
 {
-    let tree = match SegTree::root(alloc) {
-        Ok(tree) => tree,
-        Err(_) => return Err(LinkStop::Memory),
-    };
-    let program = settled_program(alloc, merged, &tree)?;
-    if let Some(refusal) = name_refusal(&program, let_on) {
-        return Err(LinkStop::Refused(refusal));
-    }
-    let places = assigned(alloc, &program, &tree)?;
-    Ok(Linked {
-        program,
-        tree,
-        places,
-    })
-}
-
-/// The program of the modules, its sections in the root.
-fn settled_program(alloc: Global, merged: Merged, tree: &SegTree) -> Result<Program, LinkStop>
-    requires root { All IsInRoot merged }
-    requires plain { tree.now ≡ plain }
-    ensures { Settles merged result }
-{
-    let mut program = merged.program(alloc)?;
-    match settle(alloc, &mut program, tree, &[]) {
-        Ok(()) => Ok(program),
-        Err(SettleFault::InsertUnknown(name)) => Err(LinkStop::Refused(Refusal::Symbol(
-            name,
-            SymbolWhat::InsertUnknown,
-        ))),
-        Err(SettleFault::NoSection) => Err(LinkStop::Refused(Refusal::NoSection)),
-        Err(SettleFault::Memory) => Err(LinkStop::Memory),
-    }
-}
-
-/// The refusal of the first name that has to be resolved and is not; none with LET.
-fn name_refusal(program: &Program, let_on: bool) -> Option<Refusal>
-    ensures { result ≡ name_refusal program.now let_on }
-{
-    if let_on {
-        return None;
-    }
-    let name = first_wanting(program)?;
-    Some(Refusal::Symbol(name, SymbolWhat::Unresolved))
-}
-
-/// The first name that has to be resolved and is not.
-fn first_wanting(program: &Program) -> Option<Name>
-    ensures { result ≡ option_map (λ x. x.name) (first_wanting program.now) }
-{
-    let first = program.unresolved.as_slice().iter().find(|x| !x.weak)?;
-    Some(first.name)
-}
-
-/// Whether some name has to be resolved and is not.
-pub fn has_wanting(program: &Program) -> bool
-    ensures { result ≡ list_any is_wanting program.now.unresolved }
-{
-    program.unresolved.as_slice().iter().any(|x| !x.weak)
-}
-
-/// The addresses of a program in the root alone.
-fn assigned(alloc: Global, program: &Program, tree: &SegTree) -> Result<Places, LinkStop>
-    requires sound { IsSoundProgram program.now }
-    requires in_tree { IsTrue (are_in_tree plain.tree program.now) }
-    requires plain { tree.now ≡ plain }
-    ensures { Assigns program.now result }
-{
-    let tables = no_tables(alloc)?;
-    match assign(alloc, program, tree, &tables) {
-        Ok(places) => Ok(places),
-        Err(AssignFault::Registers(n)) => {
-            Err(LinkStop::Refused(Refusal::Limit(Counted::Registers, n)))
+    let version = new_version(request);
+    let options = linking_options(request, output_version(sets.as_slice(), version));
+    let linked = link_sets(alloc, sets.as_slice(), &options);
+    let library = output_in(alloc, version, sets);
+    match linked {
+        Ok(modules) => {
+            let status = status_for(modules.as_slice());
+            let text = listings(alloc, modules.as_slice())?;
+            stowed(alloc, library, modules, true, status, text)
         }
-        Err(AssignFault::ModuleLength(n)) => {
-            Err(LinkStop::Refused(Refusal::Limit(Counted::ModuleLength, n)))
+        Err(LinkFault::Refused(refusal, before)) => {
+            refused_after(alloc, library, before, refusal)
         }
-        Err(AssignFault::Memory) => Err(LinkStop::Memory),
+        Err(LinkFault::Statement(number)) => unbuilt_card(alloc, number),
+        Err(LinkFault::Memory) => Err(Memory),
     }
 }
 
-/// The tables of one segment without entries.
-fn no_tables(alloc: Global) -> Result<Tables, Memory>
-    ensures { IfOk result (λ tables. tables.entries ≡ [] ∷ []) }
+/// The status once the load modules are put.
+pub fn status_for(modules: &[Linked]) -> Status
+    ensures status { result ≡ status_for modules.now }
+    ensures own { IsOwn result }
 {
-    let mut entries = Items::new(alloc);
-    entries.push(Items::new(alloc))?;
-    Ok(Tables { entries })
+    if has_unresolved(modules) {
+        Status::DoneWithUnresolved
+    } else {
+        Status::Done
+    }
+}
+
+/// Whether some name of a load module has to be resolved and is not.
+fn has_unresolved(modules: &[Linked]) -> bool
+    ensures { result ≡ list_any (λ x. not (length x.unresolved == 0)) modules.now }
+{
+    for module in modules {
+        if module.unresolved.len() != 0 {
+            return true;
+        }
+    }
+    false
+}
+
+/// The lines of the load modules, in order.
+pub fn listings(alloc: Global, modules: &[Linked]) -> Result<Vec<u8>, AllocError>
+    ensures { IfOk result (λ text. text.items ≡ listings modules.now) }
+{
+    let mut text = Vec::new(alloc);
+    for module in modules {
+        text.extend_from_slice(module.listing.as_slice())?;
+    }
+    Ok(text)
 }

@@ -1,14 +1,13 @@
 //! Answers that refuse.
 ghost use Rattle.std.specs.Prelude.{◌≡◌, None, Some, IfOk};
-ghost use Rattle.linkedit_top.specs.Go.{refused, unbuilt, unbuilt_card, faulty_card, unbuilt_line, unbuilt_card_line};
-ghost use Rattle.linkedit_top.specs.Outcome.{bad_words};
+ghost use Rattle.linkedit_top.specs.Refusing.{bad_words, refused, unbuilt, unbuilt_card, unbuilt_line, unbuilt_card_line};
 ghost use Rattle.linkedit_top.specs.Causes.{IsOwn, IsOwnRefusal};
 
 use crate::answer::Answer;
 use crate::status::Status;
 use command_words::BadWord;
 use command_words::keys::SYSLIN;
-use le_bytes::{Bytes, CardWhat, Memory, Refusal, Spot};
+use le_bytes::{Bytes, Memory, Refusal};
 use map_list::{Line, push_name, push_number, refusal_text};
 use std::alloc::Global;
 
@@ -16,16 +15,18 @@ use std::alloc::Global;
 ///
 /// # Errors
 /// Want of memory.
-#[tactic(auto, unfolding(crate::specs::Go::refused))]
+#[tactic(auto, unfolding(crate::specs::Refusing::refused))]
 pub fn refused(alloc: Global, refusal: Refusal) -> Result<Answer, Memory>
     ensures answer { IfOk result (λ answer. answer ≡ refused refusal) }
     ensures status { IfOk result (λ answer. answer.status ≡ Status.Refused refusal) }
     ensures own { IsOwnRefusal refusal → IfOk result (λ answer. IsOwn answer.status) }
+    ensures put { IfOk result (λ answer. answer.put ≡ None) }
 {
     let text = refusal_text(alloc, &Line::Refused(refusal))?;
     Ok(Answer {
         status: Status::Refused(refusal),
         text: Bytes::from_vec(text),
+        put: None,
     })
 }
 
@@ -40,37 +41,26 @@ pub fn bad_words(alloc: Global, bad: BadWord) -> Result<Answer, Memory>
     Ok(Answer {
         status: Status::BadWords(bad.word, bad.what),
         text: Bytes::from_vec(text),
+        put: None,
     })
-}
-
-/// A faulty card of the primary input, by its number.
-pub fn faulty_card(number: u32, what: CardWhat) -> Refusal
-    ensures { result ≡ faulty_card number what }
-{
-    Refusal::Card(
-        Spot {
-            set: SYSLIN,
-            member: None,
-            number,
-        },
-        what,
-    )
 }
 
 /// The answer of words that ask for what is not built yet.
 ///
 /// # Errors
 /// Want of memory.
-#[tactic(auto, unfolding(crate::specs::Go::unbuilt))]
+#[tactic(auto, unfolding(crate::specs::Refusing::unbuilt))]
 pub fn unbuilt(alloc: Global) -> Result<Answer, Memory>
     ensures answer { IfOk result (λ answer. answer ≡ unbuilt) }
     ensures status { IfOk result (λ answer. answer.status ≡ Status.NotBuilt None) }
+    ensures put { IfOk result (λ answer. answer.put ≡ None) }
 {
     let mut text = Vec::new(alloc);
     text.extend_from_slice(b"REFUSED NOTBUILT\n")?;
     Ok(Answer {
         status: Status::NotBuilt(None),
         text: Bytes::from_vec(text),
+        put: None,
     })
 }
 
@@ -78,10 +68,11 @@ pub fn unbuilt(alloc: Global) -> Result<Answer, Memory>
 ///
 /// # Errors
 /// Want of memory.
-#[tactic(auto, unfolding(crate::specs::Go::unbuilt_card))]
+#[tactic(auto, unfolding(crate::specs::Refusing::unbuilt_card))]
 pub fn unbuilt_card(alloc: Global, number: u32) -> Result<Answer, Memory>
     ensures answer { IfOk result (λ answer. answer ≡ unbuilt_card number) }
     ensures status { IfOk result (λ answer. answer.status ≡ Status.NotBuilt (Some number)) }
+    ensures put { IfOk result (λ answer. answer.put ≡ None) }
 {
     let mut text = Vec::new(alloc);
     text.extend_from_slice(b"REFUSED CARD ")?;
@@ -92,5 +83,6 @@ pub fn unbuilt_card(alloc: Global, number: u32) -> Result<Answer, Memory>
     Ok(Answer {
         status: Status::NotBuilt(Some(number)),
         text: Bytes::from_vec(text),
+        put: None,
     })
 }

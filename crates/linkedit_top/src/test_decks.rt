@@ -71,6 +71,17 @@ pub(crate) fn cards(alloc: Global, text: &str) -> Result<Vec<u8>, Fail> {
     Ok(deck)
 }
 
+/// The image of a library of one directory block: its front, and then its records.
+pub(crate) fn library(alloc: Global, front: &str, records: &str) -> Result<Vec<u8>, Fail> {
+    let mut image = Vec::new(alloc);
+    push_words(&mut image, front)?;
+    for _ in image.len()..276 {
+        image.push(0)?;
+    }
+    push_words(&mut image, records)?;
+    Ok(image)
+}
+
 /// The words of a command line.
 pub(crate) fn words(alloc: Global, line: &str) -> Result<Vec<String>, Fail> {
     let mut words = Vec::new(alloc);
@@ -80,13 +91,34 @@ pub(crate) fn words(alloc: Global, line: &str) -> Result<Vec<String>, Fail> {
     Ok(words)
 }
 
-/// The store with SYSLIN at the path `d`, whose call with this number fails.
-pub(crate) fn store(alloc: Global, syslin: Vec<u8>, fail: u64) -> Result<MemStore, Fail> {
-    let mut files = Vec::new(alloc);
-    files.push((String::from_str(alloc, "d")?, syslin))?;
+/// Adds a file with its path.
+pub(crate) fn push_file(
+    alloc: Global,
+    files: &mut Vec<(String, Vec<u8>)>,
+    path: &str,
+    bytes: Vec<u8>,
+) -> Result<(), Fail> {
+    let path = String::from_str(alloc, path)?;
+    files.push((path, bytes))?;
+    Ok(())
+}
+
+/// The store of the files, whose call with this number fails.
+pub(crate) fn store_of(
+    alloc: Global,
+    files: Vec<(String, Vec<u8>)>,
+    fail: u64,
+) -> Result<MemStore, Fail> {
     let mut fails = Vec::new(alloc);
     fails.push(fail)?;
     Ok(MemStore::new(alloc, files, fails))
+}
+
+/// The store with SYSLIN at the path `d`, whose call with this number fails.
+pub(crate) fn store(alloc: Global, syslin: Vec<u8>, fail: u64) -> Result<MemStore, Fail> {
+    let mut files = Vec::new(alloc);
+    push_file(alloc, &mut files, "d", syslin)?;
+    store_of(alloc, files, fail)
 }
 
 /// A sink that takes so many bytes at most in one write, and whose call with this number fails.

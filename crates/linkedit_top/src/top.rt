@@ -1,21 +1,27 @@
 //! The top call.
-ghost use Rattle.std.specs.Prelude.{◌≡◌, map, string_bytes};
+ghost use Rattle.std.specs.Prelude.{◌≡◌, IsSomeAnd, map, string_bytes};
 ghost use Rattle.le_io.specs.Counts.{NoneFalls, WhereTold};
-ghost use Rattle.linkedit_top.specs.Outcome.{outcome};
-ghost use Rattle.linkedit_top.specs.Causes.{IsFinal, PrintedStatus, Prints, StoreHasCause, SinkHasCause};
+ghost use Rattle.linkedit_top.specs.Outcome.{good_words, outcome};
+ghost use Rattle.linkedit_top.specs.Refusing.{bad_words};
+ghost use Rattle.linkedit_top.specs.Causes.{Completes, FilesAfter, HasStatus, Prints, StoreHasCause, SinkHasCause};
+ghost use Rattle.linkedit_top.specs.Ending.{RefusesAs};
 
-use crate::answer::Answer;
 use crate::deciding::answer;
+use crate::ending::{carry_out, printed};
+use crate::refusing::bad_words;
 use crate::status::{Fault, Status};
 use crate::stop::Stop;
-use le_io::{Sink, Store, write_all};
+use command_words::{BadWord, Request, read_words};
+use le_io::{Sink, Store};
 use std::alloc::Global;
 
-/// Does all that the program does: judges the words, reads the sets that they name, links, places, and
-/// prints. `words` are those after the program's own name.
+/// Does all that the program does: judges the words, reads the sets that they name, links, places, puts,
+/// and prints. `words` are those after the program's own name.
 ///
-/// Nothing is put yet. The text is printed in one piece after all else is done, so that after a fault of
-/// a read nothing was printed.
+/// At most one set is put, once, after all that may be refused was judged and all memory was taken; the
+/// text is printed in one piece after that. So after a fault of a read and after want of memory nothing
+/// was put and nothing was printed, and after a fault of the put nothing was printed.
+#[tactic(auto, using(crate::proofs::Statuses::completes, crate::proofs::Statuses::has_status_refused), unfolding(crate::specs::Outcome::outcome))]
 pub fn linkedit<S: Store, K: Sink>(
     alloc: Global,
     words: &[String],
@@ -24,27 +30,51 @@ pub fn linkedit<S: Store, K: Sink>(
 ) -> Status
     ensures exact { WhereTold (S.told store.old) (λ files. WhereTold (K.held print.old)
         (λ held. Prints held (K.held print.new) (outcome (map string_bytes words.now) files) result)) }
-    ensures files { S.told store.new ≡ S.told store.old }
+    ensures files { WhereTold (S.told store.old) (λ files. IsSomeAnd (S.told store.new)
+        (λ now. FilesAfter (map string_bytes words.now) files now (outcome (map string_bytes words.now) files) result)) }
+    ensures complete { WhereTold (S.told store.old) (λ files. Completes (S.counts store.old) (S.counts store.new) (K.faults print.old) (K.faults print.new) (outcome (map string_bytes words.now) files).status result) }
     ensures counts { NoneFalls (S.counts store.old) (S.counts store.new) }
     ensures store_cause { StoreHasCause (S.counts store.old) (S.counts store.new) (map string_bytes words.now) result }
     ensures sink_cause { SinkHasCause (K.faults print.old) (K.faults print.new) result }
 {
-    match answer(alloc, words, store) {
-        Ok(answer) => printed(print, &answer),
+    match read_words(words) {
+        Ok(request) => run(alloc, &request, store, print),
+        Err(bad) => refuse_words(alloc, bad, print),
+    }
+}
+
+/// Does what good words ask for.
+#[tactic(auto, using(crate::proofs::Statuses::has_status))]
+fn run<S: Store, K: Sink>(
+    alloc: Global,
+    request: &Request<'_>,
+    store: &mut S,
+    print: &mut K,
+) -> Status
+    ensures exact { WhereTold (S.told store.old) (λ files. WhereTold (K.held print.old)
+        (λ held. Prints held (K.held print.new) (good_words (map string_bytes request.now.words.now) files) result)) }
+    ensures files { WhereTold (S.told store.old) (λ files. IsSomeAnd (S.told store.new)
+        (λ now. FilesAfter (map string_bytes request.now.words.now) files now (good_words (map string_bytes request.now.words.now) files) result)) }
+    ensures status { WhereTold (S.told store.old) (λ files. HasStatus (good_words (map string_bytes request.now.words.now) files).status result) }
+    ensures counts { NoneFalls (S.counts store.old) (S.counts store.new) }
+    ensures store_cause { StoreHasCause (S.counts store.old) (S.counts store.new) (map string_bytes request.now.words.now) result }
+    ensures sink_cause { SinkHasCause (K.faults print.old) (K.faults print.new) result }
+{
+    match answer(alloc, request, store) {
+        Ok(answer) => carry_out(request, store, print, &answer),
         Err(Stop::Read(dd)) => Status::Fault(Fault::Read(dd)),
         Err(Stop::Memory) => Status::Memory,
     }
 }
 
-/// Prints the text of an answer.
-fn printed<K: Sink>(print: &mut K, answer: &Answer) -> Status
-    requires { IsFinal answer.now.status }
-    ensures status { PrintedStatus answer.now.status result }
-    ensures text { WhereTold (K.held print.old) (λ held. Prints held (K.held print.new) answer.now result) }
+/// Prints the line of a bad word.
+fn refuse_words<K: Sink>(alloc: Global, bad: BadWord, print: &mut K) -> Status
+    ensures status { RefusesAs (bad_words bad).status result }
+    ensures text { WhereTold (K.held print.old) (λ held. Prints held (K.held print.new) (bad_words bad) result) }
     ensures cause { SinkHasCause (K.faults print.old) (K.faults print.new) result }
 {
-    match write_all(print, answer.text.as_slice()) {
-        Ok(()) => answer.status,
-        Err(_) => Status::Fault(Fault::Print),
+    match bad_words(alloc, bad) {
+        Ok(answer) => printed(print, &answer),
+        Err(_) => Status::Memory,
     }
 }

@@ -1,95 +1,28 @@
-use Rattle.std.proofs.Common.{◌≡◌, ◌+◌, ◌≤◌, ◌∷◌, [], All, IfOk, IsTrue, sym, ◌∙◌, ap, subst}
+use Rattle.std.proofs.Common.{◌≡◌, ◌∷◌, [], All, IfOk, IsTrue, sym, subst}
 use Rattle.linking_model.specs.Tree.{root}
 use Rattle.linking_model.specs.Linked.{block}
 use Rattle.text_store.specs.Whole.{content_of}
 use Rattle.addr_assign.specs.Laid.{are_in_tree}
 use Rattle.relocate.specs.Ready.{StandsInTree}
-use Rattle.relocate.specs.Agreeing.{linked_text}
 use Rattle.relocate.proofs.Steps.{HasLengths}
 use Rattle.block_storage.specs.Storage.{alone}
 use Rattle.block_storage.proofs.Alone.{stand_all}
-use Rattle.block_storage.proofs.Fitting.{near_each, sections_are}
-use Rattle.block_storage.proofs.InBlock.{fits, links, apart, gathers, stored_lengths, linked_lengths}
+use Rattle.block_storage.proofs.InBlock.{apart, gathers, linked_lengths}
 use Rattle.block_storage.proofs.block.block_bytes.Goals as goal
-
-pub moved-requires : goal.moved-requires
-moved-requires c =
-    let stand : All (StandsInTree (root ∷ [])) c.args.p.now.sections =
-    stand_all (root ∷ []) c.args.p.now (subst (λ t. IsTrue (are_in_tree t c.args.p.now)) c.requires.one c.requires.in_tree) in
-    subst (All (λ n. c.args.origin + n ≤ 16777215)) (sym (ap (λ a. a.sections) c.requires.placed ∙ sections_are c.args.p.now))
-    (near_each c.args.p.now c.args.origin stand c.requires.near)
-
-pub relocate_all-requires-clause-fit : goal.relocate_all-requires-clause-fit
-relocate_all-requires-clause-fit c =
-    fits c.args.p.now c.args.origin c.args.tree.now.tree c.in_ok-tables.tables.entries c.args.a.now c.in_ok-addresses.addresses
-    (record {
-      sound = c.requires.sound;
-      stand = stand_all (root ∷ []) c.args.p.now (subst (λ t. IsTrue (are_in_tree t c.args.p.now)) c.requires.one c.requires.in_tree);
-      near = c.requires.near;
-      one = c.requires.one;
-      empty = c.in_ok-tables.ensures;
-      placed = c.requires.placed;
-      moves = c.in_ok-addresses.ensures;
-    })
-
-pub relocate_all-requires-clause-lengths : goal.relocate_all-requires-clause-lengths
-relocate_all-requires-clause-lengths c =
-    subst (λ X. HasLengths X c.args.p.now) (sym c.in_ok-text.ensures) (stored_lengths c.args.p.now)
 
 pub gathered-requires-clause-lengths : goal.gathered-requires-clause-lengths
 gathered-requires-clause-lengths c =
-    let stand : All (StandsInTree (root ∷ [])) c.args.p.now.sections =
-    stand_all (root ∷ []) c.args.p.now (subst (λ t. IsTrue (are_in_tree t c.args.p.now)) c.requires.one c.requires.in_tree) in
-    let linked : content_of c.relocate_all.new.kept ≡ linked_text (alone c.args.p.now) (block (alone c.args.p.now) c.args.origin) =
-    c.relocate_all.ensures.content
-    ∙ links c.args.p.now c.args.origin c.args.tree.now.tree c.in_ok-tables.tables.entries c.args.a.now c.in_ok-addresses.addresses (content_of c.in_ok-text.text)
-    (record {
-      sound = c.requires.sound;
-      stand = stand;
-      near = c.requires.near;
-      one = c.requires.one;
-      empty = c.in_ok-tables.ensures;
-      placed = c.requires.placed;
-      moves = c.in_ok-addresses.ensures;
-    })
-    c.in_ok-text.ensures in
-    subst (λ X. HasLengths X c.args.p.now) (sym linked) (linked_lengths c.args.p.now (block (alone c.args.p.now) c.args.origin))
+    subst (λ X. HasLengths X c.args.p.now) (sym c.in_ok-text.ensures) (linked_lengths c.args.p.now (block (alone c.args.p.now) c.args.origin))
 
 pub gathered-requires-clause-apart : goal.gathered-requires-clause-apart
 gathered-requires-clause-apart c =
     let stand : All (StandsInTree (root ∷ [])) c.args.p.now.sections =
     stand_all (root ∷ []) c.args.p.now (subst (λ t. IsTrue (are_in_tree t c.args.p.now)) c.requires.one c.requires.in_tree) in
-    let linked : content_of c.relocate_all.new.kept ≡ linked_text (alone c.args.p.now) (block (alone c.args.p.now) c.args.origin) =
-    c.relocate_all.ensures.content
-    ∙ links c.args.p.now c.args.origin c.args.tree.now.tree c.in_ok-tables.tables.entries c.args.a.now c.in_ok-addresses.addresses (content_of c.in_ok-text.text)
-    (record {
-      sound = c.requires.sound;
-      stand = stand;
-      near = c.requires.near;
-      one = c.requires.one;
-      empty = c.in_ok-tables.ensures;
-      placed = c.requires.placed;
-      moves = c.in_ok-addresses.ensures;
-    })
-    c.in_ok-text.ensures in
-    apart c.args.p.now c.args.origin c.args.a.now (content_of c.relocate_all.new.kept) stand c.requires.placed linked
+    apart c.args.p.now c.args.origin c.args.a.now (content_of c.in_ok-text.text) stand c.requires.placed c.in_ok-text.ensures
 
 pub returns : goal.returns
 returns c =
     let stand : All (StandsInTree (root ∷ [])) c.args.p.now.sections =
     stand_all (root ∷ []) c.args.p.now (subst (λ t. IsTrue (are_in_tree t c.args.p.now)) c.requires.one c.requires.in_tree) in
-    let linked : content_of c.relocate_all.new.kept ≡ linked_text (alone c.args.p.now) (block (alone c.args.p.now) c.args.origin) =
-    c.relocate_all.ensures.content
-    ∙ links c.args.p.now c.args.origin c.args.tree.now.tree c.in_ok-tables.tables.entries c.args.a.now c.in_ok-addresses.addresses (content_of c.in_ok-text.text)
-    (record {
-      sound = c.requires.sound;
-      stand = stand;
-      near = c.requires.near;
-      one = c.requires.one;
-      empty = c.in_ok-tables.ensures;
-      placed = c.requires.placed;
-      moves = c.in_ok-addresses.ensures;
-    })
-    c.in_ok-text.ensures in
     subst (λ xs. IfOk c.gathered.result (λ bytes. bytes.items ≡ xs))
-    (gathers c.args.p.now c.args.origin c.args.a.now (content_of c.relocate_all.new.kept) stand c.requires.placed linked) c.gathered.ensures
+    (gathers c.args.p.now c.args.origin c.args.a.now (content_of c.in_ok-text.text) stand c.requires.placed c.in_ok-text.ensures) c.gathered.ensures

@@ -1,0 +1,5 @@
+pub mod Linking
+pub mod Links
+pub mod Modules
+pub mod Programs
+pub mod Sets

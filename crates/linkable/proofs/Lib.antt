@@ -1,0 +1,11 @@
+pub mod Cards
+pub mod Deck
+pub mod Decks
+pub mod Entries
+pub mod InRange
+pub mod Labels
+pub mod Linkable
+pub mod Names
+pub mod Rooted
+pub mod SoundDeck
+pub mod Standing

@@ -1,0 +1,46 @@
+-- The library that is linked into, found among the sets.
+use Rattle.std.proofs.Common.{arith, ◌≡◌, ℕ, ◌+◌, ◌<◌, ◌≤◌, true, false, List, [], ◌∷◌, length, drop, get_or, All, refl, sym, ◌∙◌, ap, Option, Some, None, unwrap_or}
+use Rattle.std.specs.Prelude.{find}
+use Rattle.std.specs.Option.{option_map_or}
+use Rattle.std.proofs.Math.ListN.{drop_of_length-le}
+use Rattle.le_bytes.specs.Names.{name_eq}
+use Rattle.command_words.specs.Keys.{syslin, syslmod}
+use Rattle.pds_directory.specs.declared.kinds.Version.{Version}
+use Rattle.pds_lib.specs.declared.set.Body.{Body}
+use Rattle.pds_lib.specs.declared.set.Body.TheVariants.{Cards, Lib}
+use Rattle.pds_lib.specs.declared.set.Set.{Set}
+use Rattle.pds_lib.specs.Contents.{Contents}
+use Rattle.link_core.specs.Sets.{cards_in, primary_cards}
+use Rattle.link_core.proofs.Lists.{found}
+use Rattle.linkedit_top.specs.Sets.{empty_library, set_limit}
+use Rattle.linkedit_top.specs.Deciding.{IsReadBody, IsReadSet}
+use Rattle.linkedit_top.specs.Link.{library_in, output_in}
+use Rattle.linkedit_top.proofs.StowedModules.{front}
+
+module _ (new : Version) (sets : List Set) (k : ℕ) (lib : Contents) (so_far : output_in new (drop k sets) ≡ lib) where
+  -- the set that is named so
+  pub is_found : (x : Set) → k < length sets → x ≡ get_or sets k x → name_eq x.dd syslmod ≡ true → unwrap_or (library_in x.body) (empty_library new) ≡ lib
+  is_found x within is named = sym (ap (output_in new) (front sets k x within is) ∙ rw named refl) ∙ so_far
+
+  pub is_later : (x : Set) → k < length sets → x ≡ get_or sets k x → name_eq x.dd syslmod ≡ false → output_in new (drop (k + 1) sets) ≡ lib
+  is_later x within is other = sym (ap (output_in new) (front sets k x within is) ∙ rw other refl) ∙ so_far
+
+  pub is_new : length sets ≤ k → empty_library new ≡ lib
+  is_new all = sym (ap (output_in new) (drop_of_length-le sets all)) ∙ so_far
+
+-- a set of another name is passed over
+pub is_passed : (new : Version) (x : Set) (rest : List Set) → name_eq x.dd syslmod ≡ false → output_in new (x ∷ rest) ≡ output_in new rest
+is_passed new x rest other = rw other refl
+
+-- ---- the primary input
+
+cards_short : (b : Body) → IsReadBody b → length (cards_in b) ≤ set_limit
+cards_short (Cards bytes) read = read
+cards_short (Lib lib) read = omega arith
+
+pub primary_short : (sets : List Set) → All IsReadSet sets → length (primary_cards sets) ≤ set_limit
+primary_short sets all = cases (find (λ (x : Set). name_eq x.dd syslin) sets) refl
+  where
+    cases : (o : Option Set) → find (λ (x : Set). name_eq x.dd syslin) sets ≡ o → length (option_map_or (λ (x : Set). cards_in x.body) o []) ≤ set_limit
+    cases None is = omega arith
+    cases (Some x) is = cards_short x.body (found IsReadSet (λ (y : Set). name_eq y.dd syslin) sets x all is)

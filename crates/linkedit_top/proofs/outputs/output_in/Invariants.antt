@@ -1,0 +1,10 @@
+use Rattle.std.proofs.Common.{◌≡◌, All}
+use Rattle.std.specs.Vec.Iter.{into_iter_items}
+use Rattle.linkedit_top.specs.Deciding.{IsReadSet}
+use Rattle.linkedit_top.specs.Link.{output_in}
+use Rattle.linkedit_top.proofs.outputs.output_in.Given as goal
+
+abbrev pub invariant-loop-set : goal.invariant-loop-set
+invariant-loop-set l =
+    (output_in l.new (into_iter_items l.set-iterator) ≡ output_in l.new (into_iter_items l.initial.set-iterator))
+    × All IsReadSet (into_iter_items l.set-iterator)

@@ -1,0 +1,62 @@
+//! An answer carried out: what it puts is put, and its text printed.
+ghost use Rattle.std.specs.Prelude.{◌≡◌, IfSome, IsSomeAnd, map, string_bytes};
+ghost use Rattle.le_io.specs.Counts.{NoneFalls, WhereTold};
+ghost use Rattle.command_words.specs.Keys.{syslmod};
+ghost use Rattle.linkedit_top.specs.Causes.{FilesAfter, IsFinal, PrintedStatus, Prints, SinkHasCause};
+ghost use Rattle.linkedit_top.specs.Deciding.{PutsOutput};
+ghost use Rattle.linkedit_top.specs.Ending.{EndHasCause, EndsAs, PutHasCause, PutTold};
+
+use crate::answer::{Answer, Put};
+use crate::reading::path_for;
+use crate::status::{Fault, Status};
+use command_words::Request;
+use command_words::keys::SYSLMOD;
+use le_io::{Failed, Sink, Store, write_all};
+
+/// Puts what the answer puts, and then prints its text. Where the put fails nothing is printed.
+pub fn carry_out<S: Store, K: Sink>(
+    request: &Request<'_>,
+    store: &mut S,
+    print: &mut K,
+    answer: &Answer,
+) -> Status
+    requires status { IsFinal answer.now.status }
+    requires put { PutsOutput answer.now }
+    ensures status { EndsAs answer.now.status result }
+    ensures text { WhereTold (K.held print.old) (λ held. Prints held (K.held print.new) answer.now result) }
+    ensures files { WhereTold (S.told store.old) (λ files. IsSomeAnd (S.told store.new) (λ now. FilesAfter (map string_bytes request.now.words.now) files now answer.now result)) }
+    ensures counts { NoneFalls (S.counts store.old) (S.counts store.new) }
+    ensures store_cause { EndHasCause (S.counts store.old) (S.counts store.new) (map string_bytes request.now.words.now) result }
+    ensures sink_cause { SinkHasCause (K.faults print.old) (K.faults print.new) result }
+{
+    match put(request, store, &answer.put) {
+        Ok(()) => printed(print, answer),
+        Err(_) => Status::Fault(Fault::Write(SYSLMOD)),
+    }
+}
+
+/// Puts an image at the path of its data set, if there is one to put.
+fn put<S: Store>(request: &Request<'_>, store: &mut S, put: &Option<Put>) -> Result<(), Failed>
+    requires { IfSome put.now (λ put. put.dd ≡ syslmod) }
+    ensures told { WhereTold (S.told store.old) (λ files. IsSomeAnd (S.told store.new) (λ now. PutTold (map string_bytes request.now.words.now) files now put.now result)) }
+    ensures counts { NoneFalls (S.counts store.old) (S.counts store.new) }
+    ensures cause { PutHasCause (S.counts store.old) (S.counts store.new) (map string_bytes request.now.words.now) result }
+{
+    match put {
+        Some(put) => store.put(path_for(request, put.dd), put.image.as_slice()),
+        None => Ok(()),
+    }
+}
+
+/// Prints the text of an answer.
+pub fn printed<K: Sink>(print: &mut K, answer: &Answer) -> Status
+    requires { IsFinal answer.now.status }
+    ensures status { PrintedStatus answer.now.status result }
+    ensures text { WhereTold (K.held print.old) (λ held. Prints held (K.held print.new) answer.now result) }
+    ensures cause { SinkHasCause (K.faults print.old) (K.faults print.new) result }
+{
+    match write_all(print, answer.text.as_slice()) {
+        Ok(()) => answer.status,
+        Err(_) => Status::Fault(Fault::Print),
+    }
+}

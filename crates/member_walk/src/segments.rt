@@ -1,0 +1,43 @@
+//! Records of segments: the text that they tell of, and what ends with them.
+ghost use Rattle.std.specs.Prelude.{◌≡◌};
+ghost use Rattle.member_model.specs.Faults.{text_section, text_fault, lies_in};
+ghost use Rattle.member_walk.specs.Fields.{symbols_in};
+
+use crate::kinds::is_text_kind;
+use crate::symbols::{Symbols, end_of};
+use le_bytes::RecWhat;
+use load_recs::{SymbolItem, TextHead};
+
+/// Item `n`, where it is a section of this segment that has text.
+pub(crate) fn text_section(symbols: &Symbols, segment: u32, n: u32) -> Option<SymbolItem>
+    ensures { result ≡ text_section (symbols_in symbols.now segment) n }
+{
+    let section = symbols.at(n)?;
+    if is_text_kind(section.kind) && u32::from(section.segment) == segment {
+        Some(section)
+    } else {
+        None
+    }
+}
+
+/// Whether `length` bytes from the address on lie in the section, if there is one.
+pub(crate) fn lies_in(section: Option<SymbolItem>, address: u32, length: u32) -> bool
+    ensures { result ≡ lies_in section address length }
+{
+    match section {
+        Some(x) => x.address <= address && u64::from(address) + u64::from(length) <= end_of(&x),
+        None => false,
+    }
+}
+
+/// What is wrong with what a record of this segment tells of its text.
+pub(crate) fn text_fault(symbols: &Symbols, segment: u32, text: &TextHead) -> Option<RecWhat>
+    ensures { result ≡ text_fault (symbols_in symbols.now segment) text.now }
+{
+    let section = text_section(symbols, segment, text.section);
+    if lies_in(section, text.address, text.length) {
+        None
+    } else {
+        Some(RecWhat::TextOutside)
+    }
+}

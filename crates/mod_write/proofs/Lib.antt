@@ -1,0 +1,11 @@
+pub mod Assembled
+pub mod Entries
+pub mod Gathered
+pub mod Lists
+pub mod Member
+pub mod Pairs
+pub mod Points
+pub mod Ready
+pub mod Relocations
+pub mod Sorted
+pub mod Terms

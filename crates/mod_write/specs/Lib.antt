@@ -1,0 +1,5 @@
+pub mod Items
+pub mod Naming
+pub mod Ready
+pub mod Stowable
+pub mod Written

@@ -1,0 +1,179 @@
+//! The relocation items of sections and overlay tables.
+ghost use Rattle.std.specs.Prelude.{◌≡◌, ◌+◌, ◌*◌, ◌-◌, ◌<◌, ◌≤◌, ◌++◌, [], ◌∷◌, length, map, IfOk, OnOk, if◌then◌else◌};
+ghost use Rattle.std.specs.List.{range_with_len};
+ghost use Rattle.sym_mod.specs.Sound.{IsSoundConstant, TargetFitsKind};
+ghost use Rattle.linking_model.specs.Tree.{segments};
+ghost use Rattle.linking_model.specs.Tables.{entries};
+ghost use Rattle.member_model.specs.Chunks.{by_address, kind_flag, outside_flag, term_item, section_items, entry_items};
+ghost use Rattle.relocate.specs.Listed.{table_of};
+ghost use Rattle.part_list.specs.Listed.{CanBeListed};
+ghost use Rattle.part_list.specs.Placed.{ArePlacesOf};
+ghost use Rattle.mod_write.specs.Items.{terms_in};
+
+use crate::sorting::by_address;
+use le_bytes::Memory;
+use load_recs::RldItem;
+use part_list::{Part, PartList};
+use std::alloc::{AllocError, Global};
+use sym_mod::{Constant, Kind, Places, Tables, Target, Term};
+
+/// The relocation items of each section, by address and at one address in the order of terms. Each
+/// constant is looked at once, and the items of each section are sorted.
+///
+/// # Errors
+/// Want of memory.
+pub(crate) fn section_items(
+    alloc: Global,
+    list: &PartList<'_>,
+    a: &Places,
+) -> Result<Vec<Vec<RldItem>>, Memory>
+    requires { ArePlacesOf list.now a.now }
+    ensures value { IfOk result (λ items. map (λ v. v.items) items.items ≡ map (section_items list.now) (range_with_len 0 (length list.now.program.sections))) }
+    ensures can { IfOk result (λ _. CanBeListed list.now) }
+{
+    let mut items = gathered(alloc, list, a)?;
+    sort_each(&mut items)?;
+    Ok(items)
+}
+
+/// Puts the items of each section in the order of their addresses.
+fn sort_each(items: &mut Vec<Vec<RldItem>>) -> Result<(), AllocError>
+    ensures { OnOk result (map (λ v. v.items) items.new.items ≡ map (λ v. by_address v.items) items.old.items) }
+{
+    for k in 0..items.len() {
+        by_address(&mut items[k])?;
+    }
+    Ok(())
+}
+
+/// The relocation items of each section, as its constants stand.
+fn gathered(alloc: Global, list: &PartList<'_>, a: &Places) -> Result<Vec<Vec<RldItem>>, Memory>
+    requires { ArePlacesOf list.now a.now }
+    ensures value { IfOk result (λ items. map (λ v. v.items) items.items ≡ map (terms_in list.now list.now.program.constants) (range_with_len 0 (length list.now.program.sections))) }
+    ensures can { IfOk result (λ _. CanBeListed list.now) }
+{
+    let program = list.program();
+    let mut items = empty(alloc, program.sections.len())?;
+    for constant in program.constants.as_slice() {
+        add_terms(&mut items[constant.section as usize], list, a, constant)?;
+    }
+    Ok(items)
+}
+
+/// So many empty lists.
+fn empty(alloc: Global, count: usize) -> Result<Vec<Vec<RldItem>>, AllocError>
+    ensures { IfOk result (λ items. map (λ v. v.items) items.items ≡ map (λ _. []) (range_with_len 0 count)) }
+{
+    let mut items = Vec::with_capacity(alloc, count)?;
+    for _k in 0..count {
+        items.push(Vec::new(alloc))?;
+    }
+    Ok(items)
+}
+
+/// Puts the items of a constant's terms after those that are there.
+fn add_terms(
+    items: &mut Vec<RldItem>,
+    list: &PartList<'_>,
+    a: &Places,
+    c: &Constant,
+) -> Result<(), AllocError>
+    requires places { ArePlacesOf list.now a.now }
+    requires sound { IsSoundConstant list.now.program c.now }
+    ensures { OnOk result (items.new.items ≡ items.old.items ++ map (term_item list.now c.now) c.now.terms) }
+{
+    for term in c.terms.as_slice() {
+        items.push(term_item(list, a, c, term))?;
+    }
+    Ok(())
+}
+
+/// The item of a term of a constant.
+fn term_item(list: &PartList<'_>, a: &Places, c: &Constant, t: &Term) -> RldItem
+    requires places { ArePlacesOf list.now a.now }
+    requires sound { IsSoundConstant list.now.program c.now }
+    requires fits { TargetFitsKind list.now.program c.now.kind t.now.target }
+    ensures { result ≡ term_item list.now c.now t.now }
+{
+    let section = Part::Section(c.section);
+    RldItem {
+        r: u32::from(list.number_of_target(t.target)),
+        p: u32::from(list.number_of(section)),
+        flag: outside_flag(t.target) + kind_flag(c.kind) + 4 * (c.length - 1) + minus_flag(t),
+        address: list.place_of(a, section) + c.offset,
+    }
+}
+
+/// Bit 0 of the flag: the symbol is not defined.
+fn outside_flag(target: Target) -> u8
+    ensures value { result ≡ outside_flag target }
+    ensures most { result ≤ 128 }
+{
+    match target {
+        Target::Unresolved(_) => 0x80,
+        _ => 0x00,
+    }
+}
+
+/// The kind of a constant, in bits 0 to 3 of the flag.
+fn kind_flag(kind: Kind) -> u8
+    ensures value { result ≡ kind_flag kind }
+    ensures most { result ≤ 48 }
+{
+    match kind {
+        Kind::Address => 0x00,
+        Kind::Branch => 0x10,
+        Kind::Displacement => 0x20,
+        Kind::Total => 0x30,
+    }
+}
+
+/// Bit 6 of the flag: the term is subtracted.
+fn minus_flag(t: &Term) -> u8
+    ensures { result ≡ (if t.now.minus then 2 else 0) }
+{
+    if t.minus { 0x02 } else { 0x00 }
+}
+
+/// The relocation items of the entry table of a segment: an A-type constant of four bytes for each
+/// entry.
+///
+/// # Errors
+/// Want of memory.
+pub(crate) fn entry_items(
+    alloc: Global,
+    list: &PartList<'_>,
+    a: &Places,
+    segment: u8,
+) -> Result<Vec<RldItem>, Memory>
+    requires places { ArePlacesOf list.now a.now }
+    requires planned { list.now.entries ≡ map (entries list.now.program list.now.tree) (segments list.now.tree) }
+    requires first { 1 ≤ segment }
+    requires last { segment ≤ length list.now.tree }
+    ensures { IfOk result (λ items. items.items ≡ entry_items list.now segment) }
+{
+    let part = Part::EntryTable(segment);
+    let p = u32::from(list.number_of(part));
+    let first = list.place_of(a, part) + 12;
+    let entries = entries_of(list.tables(), segment);
+    let mut items = Vec::with_capacity(alloc, entries.len())?;
+    for (i, target) in entries.iter().enumerate() {
+        items.push(RldItem {
+            r: u32::from(list.number_of_target(*target)),
+            p,
+            flag: 0x0C,
+            address: first + 12 * i as u32,
+        })?;
+    }
+    Ok(items)
+}
+
+/// The targets in the table of a segment.
+fn entries_of(t: &Tables, segment: u8) -> &[Target]
+    ensures { result.now ≡ table_of t.now.entries segment }
+{
+    match t.entries.get(segment.saturating_sub(1) as usize) {
+        Some(entries) => entries.as_slice(),
+        None => &[],
+    }
+}

@@ -1,0 +1,191 @@
+//! The records of the segments of a program.
+ghost use Rattle.std.specs.Prelude.{◌≡◌, ◌<◌, ◌≤◌, ◌++◌, All, length, map, IfOk, OnOk};
+ghost use Rattle.member_model.specs.Parts.{SegmentTable as Segtab, OneSection, EntryTable as Entab, part_number, part_place, part_length};
+ghost use Rattle.member_model.specs.Chunks.{part_items};
+ghost use Rattle.member_model.specs.Written.{part_pieces};
+ghost use Rattle.part_list.specs.Seen.{seen, IsPartOf};
+ghost use Rattle.segment_write.specs.Pieces.{seen as seen_piece, IsPiece, IsPart};
+ghost use Rattle.segment_write.specs.Records.{IsStored};
+ghost use Rattle.mod_write.specs.Ready.{IsSource};
+ghost use Rattle.mod_write.specs.Written.{segment_bytes, bytes_of_segments};
+
+use crate::items::entry_items;
+use le_bytes::{Bytes, Items, Memory};
+use load_recs::{Ends, RldItem};
+use part_list::{Part, PartList};
+use relocate::{entab_bytes, segtab_bytes};
+use segment_write::{Piece, PlacedPart, add_section, add_table};
+use std::alloc::{AllocError, Global};
+use sym_mod::{Places, SecKind};
+use text_store::TextKeeper;
+
+/// What the records of segments are made of.
+#[derive(Clone, Copy)]
+pub(crate) struct Source<'a, K: TextKeeper> {
+    pub kept: &'a K,
+    pub list: &'a PartList<'a>,
+    pub places: &'a Places,
+    /// The relocation items of each section.
+    pub items: &'a [Vec<RldItem>],
+    /// The bytes of text in a record.
+    pub piece: u32,
+}
+
+/// The records of each segment, segment 1 first.
+///
+/// # Errors
+/// Want of memory.
+pub(crate) fn segments<K: TextKeeper>(
+    alloc: Global,
+    from: &Source<'_, K>,
+) -> Result<Vec<Items<Bytes>>, Memory>
+    requires source { IsSource from.now.list.now from.now.places.now (K.content from.now.kept.now) (map (λ v. v.items) from.now.items.now) from.now.piece }
+    ensures value { IfOk result (λ all. all.items ≡ bytes_of_segments from.now.list.now from.now.piece) }
+    ensures sizes { IfOk result (λ all. All (All IsStored) all.items) }
+{
+    let count = from.list.tree().count();
+    let mut all = Vec::with_capacity(alloc, count as usize)?;
+    for i in 0..count {
+        all.push(segment(alloc, from, i + 1)?)?;
+    }
+    Ok(all)
+}
+
+/// The records of a segment.
+fn segment<K: TextKeeper>(
+    alloc: Global,
+    from: &Source<'_, K>,
+    s: u8,
+) -> Result<Items<Bytes>, Memory>
+    requires source { IsSource from.now.list.now from.now.places.now (K.content from.now.kept.now) (map (λ v. v.items) from.now.items.now) from.now.piece }
+    requires first { 1 ≤ s }
+    requires last { s ≤ length from.now.list.now.tree }
+    ensures value { IfOk result (λ records. records ≡ segment_bytes from.now.list.now from.now.piece s) }
+    ensures sizes { IfOk result (All IsStored) }
+{
+    let mut pieces = Items::new(alloc);
+    for part in from.list.in_segment(s) {
+        add_part(alloc, &mut pieces, from, *part)?;
+    }
+    let ends = Ends {
+        segment: true,
+        module: s == from.list.tree().count(),
+    };
+    segment_write::segment_records(alloc, pieces, ends)
+}
+
+/// Puts the pieces of a part after those that are there: none of a common area.
+fn add_part<K: TextKeeper>(
+    alloc: Global,
+    pieces: &mut Items<Piece>,
+    from: &Source<'_, K>,
+    part: Part,
+) -> Result<(), Memory>
+    requires source { IsSource from.now.list.now from.now.places.now (K.content from.now.kept.now) (map (λ v. v.items) from.now.items.now) from.now.piece }
+    requires part { IsPartOf from.now.list.now (seen part) }
+    requires ready { All IsPiece (map seen_piece pieces.old) }
+    ensures value { OnOk result (map seen_piece pieces.new ≡ map seen_piece pieces.old ++ part_pieces from.now.list.now from.now.piece (seen part)) }
+    ensures ready { OnOk result (All IsPiece (map seen_piece pieces.new)) }
+{
+    match part {
+        Part::SegmentTable => add_segment_table(alloc, pieces, from),
+        Part::Section(section) => add_text(alloc, pieces, from, section),
+        Part::EntryTable(segment) => add_entry_table(alloc, pieces, from, segment),
+    }
+}
+
+/// Puts the pieces of the table of segments after those that are there.
+fn add_segment_table<K: TextKeeper>(
+    alloc: Global,
+    pieces: &mut Items<Piece>,
+    from: &Source<'_, K>,
+) -> Result<(), Memory>
+    requires source { IsSource from.now.list.now from.now.places.now (K.content from.now.kept.now) (map (λ v. v.items) from.now.items.now) from.now.piece }
+    requires ready { All IsPiece (map seen_piece pieces.old) }
+    ensures value { OnOk result (map seen_piece pieces.new ≡ map seen_piece pieces.old ++ part_pieces from.now.list.now from.now.piece Segtab) }
+    ensures ready { OnOk result (All IsPiece (map seen_piece pieces.new)) }
+{
+    let part = placed(from, Part::SegmentTable, &[]);
+    let mut bytes = zeros(alloc, part.length)?;
+    segtab_bytes(from.list.tree(), &mut bytes);
+    add_table(alloc, pieces, from.piece, part, &bytes)
+}
+
+/// Puts the pieces of a section after those that are there: none of a common area.
+fn add_text<K: TextKeeper>(
+    alloc: Global,
+    pieces: &mut Items<Piece>,
+    from: &Source<'_, K>,
+    section: u32,
+) -> Result<(), Memory>
+    requires source { IsSource from.now.list.now from.now.places.now (K.content from.now.kept.now) (map (λ v. v.items) from.now.items.now) from.now.piece }
+    requires there { section < length from.now.list.now.program.sections }
+    requires ready { All IsPiece (map seen_piece pieces.old) }
+    ensures value { OnOk result (map seen_piece pieces.new ≡ map seen_piece pieces.old ++ part_pieces from.now.list.now from.now.piece (OneSection section)) }
+    ensures ready { OnOk result (All IsPiece (map seen_piece pieces.new)) }
+{
+    let part = Part::Section(section);
+    match from.list.kind_of(part) {
+        SecKind::Cm => Ok(()),
+        SecKind::Sd | SecKind::Pc => {
+            let part = placed(from, part, &from.items[section as usize]);
+            add_section(alloc, pieces, from.piece, part, from.kept, section)
+        }
+    }
+}
+
+/// Puts the pieces of the entry table of a segment after those that are there.
+fn add_entry_table<K: TextKeeper>(
+    alloc: Global,
+    pieces: &mut Items<Piece>,
+    from: &Source<'_, K>,
+    segment: u8,
+) -> Result<(), Memory>
+    requires source { IsSource from.now.list.now from.now.places.now (K.content from.now.kept.now) (map (λ v. v.items) from.now.items.now) from.now.piece }
+    requires first { 1 ≤ segment }
+    requires last { segment ≤ length from.now.list.now.tree }
+    requires ready { All IsPiece (map seen_piece pieces.old) }
+    ensures value { OnOk result (map seen_piece pieces.new ≡ map seen_piece pieces.old ++ part_pieces from.now.list.now from.now.piece (Entab segment)) }
+    ensures ready { OnOk result (All IsPiece (map seen_piece pieces.new)) }
+{
+    let items = entry_items(alloc, from.list, from.places, segment)?;
+    let part = placed(from, Part::EntryTable(segment), &items);
+    let mut bytes = zeros(alloc, part.length)?;
+    entab_bytes(
+        from.list.program(),
+        from.places,
+        from.list.tables(),
+        segment,
+        &mut bytes,
+    );
+    add_table(alloc, pieces, from.piece, part, &bytes)
+}
+
+/// A part with its number, its address, its length and these relocation items, which are its own.
+fn placed<'a, K: TextKeeper>(
+    from: &Source<'_, K>,
+    part: Part,
+    items: &'a [RldItem],
+) -> PlacedPart<'a>
+    requires source { IsSource from.now.list.now from.now.places.now (K.content from.now.kept.now) (map (λ v. v.items) from.now.items.now) from.now.piece }
+    requires part { IsPartOf from.now.list.now (seen part) }
+    requires items { items.now ≡ part_items from.now.list.now (seen part) }
+    ensures part { IsPart result }
+    ensures number { result.number ≡ part_number from.now.list.now (seen part) }
+    ensures address { result.address ≡ part_place from.now.list.now (seen part) }
+    ensures length { result.length ≡ part_length from.now.list.now (seen part) }
+    ensures items { result.items.now ≡ part_items from.now.list.now (seen part) }
+{
+    PlacedPart {
+        number: u32::from(from.list.number_of(part)),
+        address: from.list.place_of(from.places, part),
+        length: from.list.length_of(part),
+        items,
+    }
+}
+
+fn zeros(alloc: Global, count: u32) -> Result<Vec<u8>, AllocError>
+    ensures { IfOk result (λ bytes. length bytes.items ≡ count) }
+{
+    vec![in alloc; 0u8; count as usize]
+}

@@ -1,0 +1,5 @@
+pub mod Gathered
+pub mod Listed
+pub mod Numbers
+pub mod Placed
+pub mod Seen

@@ -1,0 +1,11 @@
+pub mod Agreeing
+pub mod Calls
+pub mod Finishing
+pub mod Heading
+pub mod Heads
+pub mod Numbers
+pub mod Records
+pub mod ScatterCalls
+pub mod Sections
+pub mod Sound
+pub mod Texts

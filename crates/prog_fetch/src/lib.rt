@@ -1,0 +1,18 @@
+//! Program fetch: a member is placed, and its records are read into storage one at a time.
+#![tactic(auto)]
+
+mod fault;
+mod fetched;
+mod fetching;
+mod laws;
+mod loading;
+mod reading;
+mod scattering;
+
+pub use fault::{FetchFault, ScatterFault};
+pub use fetched::Fetched;
+pub use fetching::fetch;
+pub use laws::placed_members_fit;
+pub use part_store::Part;
+pub use placing::{Area, Placement, place_block};
+pub use scattering::place_scatter;
