@@ -10,8 +10,6 @@ mod program;
 mod programs;
 mod resolving;
 mod sets;
-#[cfg(test)]
-mod tests;
 
 pub use linked::{LinkFault, Linked};
 pub use linking::link;
