@@ -1,8 +1,12 @@
 pub mod Decided
+pub mod Headline
 pub mod LibraryKinds
+pub mod NamedSets
 pub mod Names
 pub mod OutputSets
+pub mod PrintedPrograms
 pub mod Refusals
 pub mod SetsRead
+pub mod Standing
 pub mod Statuses
 pub mod StowedModules

@@ -10,6 +10,7 @@ use Rattle.pds_lib.specs.declared.set.Body.{Body}
 use Rattle.pds_lib.specs.declared.set.Body.TheVariants.{Cards, Lib}
 use Rattle.pds_lib.specs.declared.set.Set.{Set}
 use Rattle.pds_lib.specs.Contents.{Contents}
+use Rattle.member_model.specs.StandsFor.{AreBytes}
 use Rattle.link_core.specs.Sets.{cards_in, primary_cards}
 use Rattle.link_core.proofs.Lists.{found}
 use Rattle.linkedit_top.specs.Sets.{empty_library, set_limit}
@@ -34,13 +35,26 @@ is_passed new x rest other = rw other refl
 
 -- ---- the primary input
 
-cards_short : (b : Body) → IsReadBody b → length (cards_in b) ≤ set_limit
-cards_short (Cards bytes) read = read
-cards_short (Lib lib) read = omega arith
+-- cards that were read, and no cards
+abbrev IsReadCards : List ℕ → Type 0
+IsReadCards bytes = (length bytes ≤ set_limit) × AreBytes bytes
+
+none_read : IsReadCards []
+none_read = (omega arith, tt)
+
+cards_read : (b : Body) → IsReadBody b → IsReadCards (cards_in b)
+cards_read (Cards bytes) read = read
+cards_read (Lib lib) read = none_read
+
+primary_read : (sets : List Set) → All IsReadSet sets → IsReadCards (primary_cards sets)
+primary_read sets all = cases (find (λ (x : Set). name_eq x.dd syslin) sets) refl
+  where
+    cases : (o : Option Set) → find (λ (x : Set). name_eq x.dd syslin) sets ≡ o → IsReadCards (option_map_or (λ (x : Set). cards_in x.body) o [])
+    cases None is = none_read
+    cases (Some x) is = cards_read x.body (found IsReadSet (λ (y : Set). name_eq y.dd syslin) sets x all is)
 
 pub primary_short : (sets : List Set) → All IsReadSet sets → length (primary_cards sets) ≤ set_limit
-primary_short sets all = cases (find (λ (x : Set). name_eq x.dd syslin) sets) refl
-  where
-    cases : (o : Option Set) → find (λ (x : Set). name_eq x.dd syslin) sets ≡ o → length (option_map_or (λ (x : Set). cards_in x.body) o []) ≤ set_limit
-    cases None is = omega arith
-    cases (Some x) is = cards_short x.body (found IsReadSet (λ (y : Set). name_eq y.dd syslin) sets x all is)
+primary_short sets all = (primary_read sets all).0
+
+pub primary_bytes : (sets : List Set) → All IsReadSet sets → AreBytes (primary_cards sets)
+primary_bytes sets all = (primary_read sets all).1

@@ -11,6 +11,7 @@ use Rattle.linkedit_top.specs.declared.answer.Answer.{Answer}
 use Rattle.linkedit_top.specs.declared.stop.Stop.{Stop}
 use Rattle.linkedit_top.specs.declared.stop.Stop.TheVariants.{Read, Memory}
 use Rattle.pds_lib.specs.Contents.{Contents}
+use Rattle.member_model.specs.StandsFor.{AreBytes}
 use Rattle.link_core.specs.declared.linked.Linked.{Linked}
 use Rattle.linkedit_top.specs.Sets.{path_for, set_limit}
 use Rattle.linkedit_top.specs.Link.{with_module}
@@ -48,9 +49,9 @@ SetsHaveCause old new words (Ok (Err refusal)) = NoFault old new × RefusalHasCa
 SetsHaveCause old new words (Err (Read dd)) = FaultsRose old new (path_for words dd)
 SetsHaveCause old new words (Err Memory) = NoFault old new
 
--- cards of a set that is not too long, or a library of load modules
+-- cards of a set that is not too long, which are bytes, or a library of load modules
 abbrev pub IsReadBody : Body → Type 0
-IsReadBody (Cards bytes) = length bytes ≤ set_limit
+IsReadBody (Cards bytes) = (length bytes ≤ set_limit) × AreBytes bytes
 IsReadBody (Lib lib) = lib.kind ≡ Modules
 
 -- so it is with a set by its name

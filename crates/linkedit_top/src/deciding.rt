@@ -8,6 +8,7 @@ ghost use Rattle.command_words.specs.Word.{has_key};
 ghost use Rattle.linkedit_top.specs.Causes.{IsOwn};
 ghost use Rattle.linkedit_top.specs.Outcome.{are_built_options, are_built_settings, command_answer, good_words, is_built, is_built_setting};
 ghost use Rattle.linkedit_top.specs.Deciding.{Decides, HasCause, IsReadSet, PutsOutput};
+ghost use Rattle.linkedit_top.specs.Headline.{LinksAsPromised};
 
 use crate::answer::Answer;
 use crate::fetching::fetch;
@@ -27,9 +28,10 @@ use std::alloc::Global;
 ///
 /// # Errors
 /// A failed read; want of memory.
-#[tactic(auto, using(crate::proofs::Decided::decided, crate::proofs::Decided::declined, crate::proofs::Decided::not_built, crate::proofs::Statuses::own_cause, crate::proofs::Statuses::own_final))]
+#[tactic(auto, using(crate::proofs::Decided::decided, crate::proofs::Decided::declined, crate::proofs::Decided::not_built, crate::proofs::Headline::sets_promised, crate::proofs::Headline::refused_promised, crate::proofs::Headline::unbuilt_promised, crate::proofs::Statuses::own_cause, crate::proofs::Statuses::own_final))]
 pub fn answer<S: Store>(alloc: Global, request: &Request<'_>, store: &mut S) -> Result<Answer, Stop>
     ensures answer { WhereTold (S.told store.old) (λ files. Decides (good_words (map string_bytes request.now.words.now) files) result) }
+    ensures promised { WhereTold (S.told store.old) (λ files. IfOk result (LinksAsPromised (map string_bytes request.now.words.now) files)) }
     ensures put { IfOk result PutsOutput }
     ensures told { S.told store.new ≡ S.told store.old }
     ensures counts { NoneFalls (S.counts store.old) (S.counts store.new) }

@@ -7,6 +7,7 @@ mod deciding;
 mod ending;
 mod fetching;
 mod going;
+mod laws;
 mod linking;
 mod outputs;
 mod reading;
@@ -16,5 +17,6 @@ mod stop;
 mod stowing;
 mod top;
 
+pub use laws::{outcomes_are_as_promised, stowed_modules_print_programs};
 pub use status::{Fault, Status};
 pub use top::linkedit;

@@ -5,6 +5,7 @@ ghost use Rattle.linkedit_top.specs.Outcome.{good_words, outcome};
 ghost use Rattle.linkedit_top.specs.Refusing.{bad_words};
 ghost use Rattle.linkedit_top.specs.Causes.{Completes, FilesAfter, HasStatus, Prints, StoreHasCause, SinkHasCause};
 ghost use Rattle.linkedit_top.specs.Ending.{RefusesAs};
+ghost use Rattle.linkedit_top.specs.Headline.{IsJudged, LinksAsPromised};
 
 use crate::deciding::answer;
 use crate::ending::{carry_out, printed};
@@ -21,6 +22,9 @@ use std::alloc::Global;
 /// At most one set is put, once, after all that may be refused was judged and all memory was taken; the
 /// text is printed in one piece after that. So after a fault of a read and after want of memory nothing
 /// was put and nothing was printed, and after a fault of the put nothing was printed.
+///
+/// What `link` and `go` put and print is said of the program of their cards too (`promised`): it stands in the
+/// member that is put, and `go` prints its entry point and its linked bytes.
 #[tactic(auto, using(crate::proofs::Statuses::completes, crate::proofs::Statuses::has_status_refused), unfolding(crate::specs::Outcome::outcome))]
 pub fn linkedit<S: Store, K: Sink>(
     alloc: Global,
@@ -32,6 +36,7 @@ pub fn linkedit<S: Store, K: Sink>(
         (λ held. Prints held (K.held print.new) (outcome (map string_bytes words.now) files) result)) }
     ensures files { WhereTold (S.told store.old) (λ files. IsSomeAnd (S.told store.new)
         (λ now. FilesAfter (map string_bytes words.now) files now (outcome (map string_bytes words.now) files) result)) }
+    ensures promised { WhereTold (S.told store.old) (λ files. IsJudged result → LinksAsPromised (map string_bytes words.now) files (outcome (map string_bytes words.now) files)) }
     ensures complete { WhereTold (S.told store.old) (λ files. Completes (S.counts store.old) (S.counts store.new) (K.faults print.old) (K.faults print.new) (outcome (map string_bytes words.now) files).status result) }
     ensures counts { NoneFalls (S.counts store.old) (S.counts store.new) }
     ensures store_cause { StoreHasCause (S.counts store.old) (S.counts store.new) (map string_bytes words.now) result }
@@ -55,6 +60,7 @@ fn run<S: Store, K: Sink>(
         (λ held. Prints held (K.held print.new) (good_words (map string_bytes request.now.words.now) files) result)) }
     ensures files { WhereTold (S.told store.old) (λ files. IsSomeAnd (S.told store.new)
         (λ now. FilesAfter (map string_bytes request.now.words.now) files now (good_words (map string_bytes request.now.words.now) files) result)) }
+    ensures promised { WhereTold (S.told store.old) (λ files. IsJudged result → LinksAsPromised (map string_bytes request.now.words.now) files (good_words (map string_bytes request.now.words.now) files)) }
     ensures status { WhereTold (S.told store.old) (λ files. HasStatus (good_words (map string_bytes request.now.words.now) files).status result) }
     ensures counts { NoneFalls (S.counts store.old) (S.counts store.new) }
     ensures store_cause { StoreHasCause (S.counts store.old) (S.counts store.new) (map string_bytes request.now.words.now) result }
