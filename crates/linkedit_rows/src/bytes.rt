@@ -28,6 +28,11 @@ fn sample(word: &str) -> Option<&str> {
         "$wanting" => Some(
             "ESD 0030 .. 0001 MAIN 00000000.000008 X 02....... W 0a....... / RLD 0008 .... 000200011c000000 / END /",
         ),
+        // Section A of 48 bytes with ten constants, one of them of two terms, and nine references: a deck
+        // without its END card.
+        "$large" => Some(
+            "ESD 0010 .. 0001 A 00000000.000030 / ESD 0030 .. 0002 B 02....... C 02....... D 02....... / ESD 0030 .. 0005 E 02....... F 02....... G 02....... / ESD 0030 .. 0008 H 02....... I 02....... J 02....... / TXT 000000..0030.. 0001 000000100000002000000000000000000000000000000000000000000000000000000000000000240000000000000000 / RLD 0018 .... 000200010c000000000300010c000004000400010c000008 / RLD 0018 .... 000500010c00000c000600010c000010000700010c000014 / RLD 0018 .... 000800010c000018000900010c00001c000a00010c000020 / RLD 0010 .... 000100010c000024000400010e000004 /",
+        ),
         // Another deck and a comment.
         "$before" => Some("ESD 0010 .. 0001 B 00000000.000004 / END / 5c /"),
         // The library of the first deck's member TEMPNAME alone.

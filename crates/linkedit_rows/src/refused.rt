@@ -93,6 +93,60 @@ fn each_fault_of_a_module_is_told_at_its_card(rt: HostRuntime) -> Result<(), Fai
     > REFUSED CARD SYSLIN 5 CONSTANTSOVERLAP
     exit 8
 
+    case faults of the tenth card, after more items and terms than are looked through one by one
+    file d $large ESD 0010 .. 000a K 02....... /
+    run go SYSLIN=d
+    > REFUSED CARD SYSLIN 10 BADESDID
+    exit 8
+    file d $large ESD 0010 .. 0001 K 02....... /
+    run go SYSLIN=d
+    > REFUSED CARD SYSLIN 10 BADESDID
+    exit 8
+    file d $large ESD 0020 .. 000b K 02....... $SEGTAB 00000000.000008 /
+    run go SYSLIN=d
+    > REFUSED CARD SYSLIN 10 RESERVEDNAME
+    exit 8
+    file d $large TXT 000000..0008.. 000b 0000000000000000 /
+    run go SYSLIN=d
+    > REFUSED CARD SYSLIN 10 UNKNOWNESDID
+    exit 8
+    file d $large TXT 000000..0008.. 0002 0000000000000000 /
+    run go SYSLIN=d
+    > REFUSED CARD SYSLIN 10 UNKNOWNESDID
+    exit 8
+    file d $large TXT 00002f..0002.. 0001 0000 /
+    run go SYSLIN=d
+    > REFUSED CARD SYSLIN 10 TEXTOUTSIDE
+    exit 8
+    file d $large RLD 0008 .... 000b00010c000028 /
+    run go SYSLIN=d
+    > REFUSED CARD SYSLIN 10 UNKNOWNESDID
+    exit 8
+    file d $large RLD 0008 .... 000100020c000028 /
+    run go SYSLIN=d
+    > REFUSED CARD SYSLIN 10 UNKNOWNESDID
+    exit 8
+    file d $large RLD 0008 .... 000200010c000001 /
+    run go SYSLIN=d
+    > REFUSED CARD SYSLIN 10 CONSTANTSOVERLAP
+    exit 8
+    file d $large RLD 0008 .... 000200010c000027 /
+    run go SYSLIN=d
+    > REFUSED CARD SYSLIN 10 CONSTANTSOVERLAP
+    exit 8
+    file d $large RLD 0008 .... 0002000108000000 /
+    run go SYSLIN=d
+    > REFUSED CARD SYSLIN 10 CONSTANTSOVERLAP
+    exit 8
+    file d $large RLD 0008 .... 000200011c000020 /
+    run go SYSLIN=d
+    > REFUSED CARD SYSLIN 10 CONSTANTSOVERLAP
+    exit 8
+    file d $large RLD 0008 .... 000200010c00002d /
+    run go SYSLIN=d
+    > REFUSED CARD SYSLIN 10 CONSTANTOUTSIDE
+    exit 8
+
     case END: the entry, the labels, and what waited for the length
     file d $before ESD 0010 .. 0001 A 00000000.000008 / END .000000...... 0002 /
     run go SYSLIN=d

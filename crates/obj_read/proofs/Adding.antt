@@ -12,13 +12,13 @@ use Rattle.obj_read.specs.Steps.{Adds}
 drop_at : {X : Type 0} (k : ℕ) (xs : List X) (d : X) → k < length xs → drop k xs ≡ get_or xs k d ∷ drop (k + 1) xs
 drop_at k xs d within = rw (add-one) (drop-cons xs k d within)
 
-pub fault_at : (new all : List CardRld) (items : List Numbered) (before more : List CardRld) (k : ℕ) (d : CardRld) → k < length more
+pub fault_at : (new now all grown : List CardRld) (items : List Numbered) (before more : List CardRld) (k : ℕ) (d : CardRld) → k < length more
     → (wrong : Wrong) (fault : Option CardWhat) → terms_fault items before (drop k more) ≡ fault
-    → Adds (term_fault items before (get_or more k d)) new (Err wrong) → Adds fault all (Err wrong)
-fault_at new all items before more k d within (WrongCard what) fault is h =
+    → Adds (term_fault items before (get_or more k d)) new now (Err wrong) → Adds fault all grown (Err wrong)
+fault_at new now all grown items before more k d within (WrongCard what) fault is h =
     sym is ∙ (ap (λ xs. terms_fault items before xs) (drop_at k more d within)
     ∙ ap (λ o. or_else o (terms_fault items (before ++ get_or more k d ∷ []) (drop (k + 1) more))) h)
-fault_at new all items before more k d within Memory fault is h = tt
+fault_at new now all grown items before more k d within Memory fault is h = tt
 
 pub map_more : {X Y : Type 0} (F : X → Y) (xs : List X) (i : ℕ) (d : X) (made new : List Y) (y : Y)
     → i < length xs → made ≡ map F (take i xs) → y ≡ F (get_or xs i d) → new ≡ made ++ y ∷ [] → new ≡ map F (take (i + 1) xs)

@@ -1,7 +1,7 @@
 -- The terms that stand first at their places, and the constants with one more term.
-use Rattle.std.proofs.Common.{arith, ◌≡◌, ◌≢◌, ℕ, zero, suc, ◌<◌, Bool, true, false, ◌&&◌, ◌||◌, ◌==◌, cond, if◌then◌else◌, List, [], ◌∷◌, ◌++◌, length, map, get_or, set, ◌⊎◌, inl, inr, Some, None, refl, sym, ◌∙◌, ap, subst, slice_get}
+use Rattle.std.proofs.Common.{arith, ◌≡◌, ◌≢◌, ℕ, zero, suc, ◌+◌, ◌<◌, Bool, true, false, ◌&&◌, ◌||◌, ◌==◌, cond, if◌then◌else◌, List, [], ◌∷◌, ◌++◌, length, map, take, get_or, set, ◌⊎◌, inl, inr, Some, None, refl, sym, ◌∙◌, ap, subst, slice_get}
 use Rattle.std.specs.List.{list_any, filter, position, AllPairs}
-use Rattle.std.proofs.lemmas.List.{append-nil, append_assoc, map-append}
+use Rattle.std.proofs.lemmas.List.{append-nil, append_assoc, map-append, take_more}
 use Rattle.std.proofs.lemmas.List.Elements.{filter-append}
 use Rattle.std.proofs.lemmas.List.Folds.{list_any-append}
 use Rattle.std.proofs.lemmas.List.Quantifiers.{all_pairs_push, position-Some}
@@ -238,3 +238,40 @@ constants_new items ts f none =
     ∙ (ap (λ c. map (constant items (ts ++ f ∷ [])) L ++ c ∷ []) (sym (constant_alone items ts f (sym (any_leader f [] ts) ∙ new)))
     ∙ (sym (map-append (constant items (ts ++ f ∷ [])) L (f ∷ []))
     ∙ ap (λ xs. map (constant items (ts ++ f ∷ [])) xs) (sym (leaders_new ts f new))))
+
+-- ---- leaders and filtered terms of the first k + 1 terms
+
+module _ {Y : Type 0} (F : CardRld → Y) (ts : List CardRld) (k : ℕ) (d : CardRld) (within : k < length ts) (made : List Y) where
+  pub leads_not : made ≡ map F (leaders [] (take k ts)) → list_any (same_place (get_or ts k d)) (take k ts) ≡ true
+      → made ≡ map F (leaders [] (take (k + 1) ts))
+  leads_not before known =
+      before ∙ ap (λ xs. map F xs)
+      (sym (ap (λ xs. leaders [] xs) (take_more ts k d within)
+      ∙ leaders_known (take k ts) (get_or ts k d) (any_leader (get_or ts k d) [] (take k ts) ∙ known)))
+
+  pub leads : (new : List Y) (y : Y) → made ≡ map F (leaders [] (take k ts)) → list_any (same_place (get_or ts k d)) (take k ts) ≡ false
+      → y ≡ F (get_or ts k d) → new ≡ made ++ y ∷ [] → new ≡ map F (leaders [] (take (k + 1) ts))
+  leads new y before unknown is pushed =
+      pushed ∙ (ap (λ ys. ys ++ y ∷ []) before ∙ (ap (λ y. map F (leaders [] (take k ts)) ++ y ∷ []) is
+      ∙ (sym (map-append F (leaders [] (take k ts)) (get_or ts k d ∷ []))
+      ∙ ap (λ xs. map F xs)
+      (sym (ap (λ xs. leaders [] xs) (take_more ts k d within)
+      ∙ leaders_new (take k ts) (get_or ts k d) (any_leader (get_or ts k d) [] (take k ts) ∙ unknown))))))
+
+  pub passes_not : (p : CardRld → Bool) → made ≡ map F (filter p (take k ts)) → p (get_or ts k d) ≡ false
+      → made ≡ map F (filter p (take (k + 1) ts))
+  passes_not p before fails =
+      before ∙ ap (λ xs. map F xs)
+      (sym (ap (λ xs. filter p xs) (take_more ts k d within)
+      ∙ (filter-append p (take k ts) (get_or ts k d ∷ [])
+      ∙ (ap (λ b. filter p (take k ts) ++ cond b (get_or ts k d ∷ []) []) fails ∙ append-nil (filter p (take k ts))))))
+
+  pub passes : (p : CardRld → Bool) (new : List Y) (y : Y) → made ≡ map F (filter p (take k ts)) → p (get_or ts k d) ≡ true
+      → y ≡ F (get_or ts k d) → new ≡ made ++ y ∷ [] → new ≡ map F (filter p (take (k + 1) ts))
+  passes p new y before holds is pushed =
+      pushed ∙ (ap (λ ys. ys ++ y ∷ []) before ∙ (ap (λ y. map F (filter p (take k ts)) ++ y ∷ []) is
+      ∙ (sym (map-append F (filter p (take k ts)) (get_or ts k d ∷ []))
+      ∙ ap (λ xs. map F xs)
+      (sym (ap (λ xs. filter p xs) (take_more ts k d within)
+      ∙ (filter-append p (take k ts) (get_or ts k d ∷ [])
+      ∙ ap (λ b. filter p (take k ts) ++ cond b (get_or ts k d ∷ []) []) holds))))))

@@ -1,5 +1,5 @@
 -- The terms of constants in a map by the bytes of their fields.
-use Rattle.std.specs.Prelude.{◌≡◌, ℕ, ◌+◌, Bool, ◌&&◌, ◌==◌, nat_eq, nat_le, nat_lt, List, find}
+use Rattle.std.specs.Prelude.{◌≡◌, ℕ, ◌+◌, Bool, ◌&&◌, ◌==◌, nat_eq, nat_le, nat_lt, List, find, Option, Some, None}
 use Rattle.std.specs.HashMap.{get, HashMap}
 use Rattle.obj_cards.specs.declared.card.CardRld.{CardRld}
 use Rattle.obj_read.specs.declared.terms.BytePlace.{BytePlace}
@@ -15,6 +15,11 @@ place s b = record { section = s; byte = b }
 -- the map has at each byte the first term whose field the byte stands in
 abbrev pub IsCovered : {S : Type 0} → List CardRld → HashMap BytePlace CardRld S → Type 0
 IsCovered terms covered = (s b : ℕ) → get byte_eq covered (place s b) ≡ find (covers s b) terms
+
+-- where there is a map, it is of these terms
+abbrev pub IsCoveredIfMany : {S : Type 0} → List CardRld → Option (HashMap BytePlace CardRld S) → Type 0
+IsCoveredIfMany terms None = Unit {0}
+IsCoveredIfMany terms (Some covered) = IsCovered terms covered
 
 -- what the map had, and the term at the one byte if it had none there
 abbrev pub CoversByte : {S : Type 0} → HashMap BytePlace CardRld S → HashMap BytePlace CardRld S → BytePlace → CardRld → Type 0

@@ -7,6 +7,11 @@ use Rattle.obj_read.specs.Facts.{number_of, has_esdid}
 abbrev pub IsIndexed : {S : Type 0} → List Numbered → HashMap ℕ ℕ S → Type 0
 IsIndexed items places = (id : ℕ) → get nat_eq places id ≡ number_of id items
 
+-- where there is a map, it is of these items
+abbrev pub IsIndexedIfMany : {S : Type 0} → List Numbered → Option (HashMap ℕ ℕ S) → Type 0
+IsIndexedIfMany items None = Unit {0}
+IsIndexedIfMany items (Some places) = IsIndexed items places
+
 -- what was found before, or else what is new where it has what is asked for
 abbrev pub or_place : {X : Type 0} → Option X → Bool → X → Option X
 or_place (Some old) has new = Some old

@@ -22,11 +22,11 @@ use Rattle.obj_read.specs.Module.{with_end, symbol, fragment, constants, entry}
 use Rattle.obj_read.specs.Faults.{or_else, when, items_fault, text_fault, terms_fault, start_fault, labels_fault, is_text_outside, is_term_outside}
 use Rattle.obj_read.specs.Decks.{Read}
 
--- what a call answers that adds to facts: the new ones exactly where there is no fault
-abbrev pub Adds : {X : Type 0} → Option CardWhat → X → Result X Wrong → Type 0
-Adds fault new (Ok x) = (fault ≡ None) × (x ≡ new)
-Adds fault new (Err (WrongCard what)) = fault ≡ Some what
-Adds fault new (Err Memory) = Unit {0}
+-- what a call answers that adds to facts: they are the new ones exactly where there is no fault
+abbrev pub Adds : {X : Type 0} → Option CardWhat → X → X → Result (Unit {0}) Wrong → Type 0
+Adds fault new now (Ok _) = (fault ≡ None) × (now ≡ new)
+Adds fault new now (Err (WrongCard what)) = fault ≡ Some what
+Adds fault new now (Err Memory) = Unit {0}
 
 -- ---- END, where the items have their lengths
 
@@ -76,6 +76,11 @@ unless f card None = Ok (record { facts = after f card; start = start_on card })
 abbrev pub step_of : Facts → Result Card CardFault → Result Step CardWhat
 step_of f (Err fault) = Err (what_of fault)
 step_of f (Ok card) = unless f card (fault_in f card)
+
+-- the step to the facts as they are now
+abbrev pub stepped : Facts → Result (Option EndStart) Wrong → Result Step Wrong
+stepped f (Ok start) = Ok (record { facts = f; start = start })
+stepped f (Err wrong) = Err wrong
 
 abbrev pub Steps : Result Step CardWhat → Result Step Wrong → Type 0
 Steps expected (Ok step) = expected ≡ Ok step

@@ -16,20 +16,16 @@ use sym_mod::{Frag, Item, ItemKind, SymEntry, SymModule};
 ///
 /// # Errors
 /// Want of memory.
-pub fn made(alloc: Global, facts: Facts, start: &EndStart) -> Result<SymModule, AllocError>
-    requires { length facts.items < 2 ^ 32 }
-    ensures { IfOk result (λ made. made ≡ made_of facts start.now) }
+pub fn made(alloc: Global, facts: &Facts, start: &EndStart) -> Result<SymModule, AllocError>
+    requires { length facts.now.items < 2 ^ 32 }
+    ensures { IfOk result (λ made. made ≡ made_of facts.now start.now) }
 {
-    let Facts {
-        items,
-        texts,
-        terms,
-    } = facts;
+    let items = &facts.items;
     Ok(SymModule {
-        items: symbols(alloc, &items)?,
-        fragments: fragments(alloc, &items, texts.as_slice())?,
-        constants: constants(alloc, &items, terms.as_slice())?,
-        entry: entry(&items, start),
+        items: symbols(alloc, items)?,
+        fragments: fragments(alloc, items, facts.texts.as_slice())?,
+        constants: constants(alloc, items, facts.terms.as_slice())?,
+        entry: entry(items, start),
     })
 }
 
@@ -58,11 +54,11 @@ fn symbols(alloc: Global, items: &Dictionary) -> Result<Items<Item>, AllocError>
     requires { length items.now < 2 ^ 32 }
     ensures { IfOk result (λ made. made ≡ map (symbol items.now) items.now) }
 {
-    let mut made = Items::new(alloc);
+    let mut made = Vec::with_capacity(alloc, items.items().len())?;
     for x in items.items() {
         made.push(symbol(items, x))?;
     }
-    Ok(made)
+    Ok(Items::from_vec(made))
 }
 
 fn symbol(items: &Dictionary, x: &Numbered) -> Item
@@ -131,11 +127,11 @@ fn fragments(
     requires { length items.now < 2 ^ 32 }
     ensures { IfOk result (λ made. made ≡ map (fragment items.now) texts.now) }
 {
-    let mut made = Items::new(alloc);
+    let mut made = Vec::with_capacity(alloc, texts.len())?;
     for t in texts {
         made.push(fragment(alloc, items, t)?)?;
     }
-    Ok(made)
+    Ok(Items::from_vec(made))
 }
 
 fn fragment(alloc: Global, items: &Dictionary, t: &TxtCard) -> Result<Frag, AllocError>

@@ -1,11 +1,13 @@
 //! The address constants that terms make, one for each place.
-ghost use Rattle.std.specs.Prelude.{◌≡◌, ◌+◌, ◌<◌, ◌^◌, ◌∷◌, [], length, take, IfOk};
+ghost use Rattle.std.specs.Prelude.{◌≡◌, ◌+◌, ◌<◌, ◌^◌, ◌∷◌, [], length, map, filter, take, IfOk};
+ghost use Rattle.std.specs.List.{list_any};
 ghost use Rattle.obj_read.specs.Flags.{kind_of_flag};
-ghost use Rattle.obj_read.specs.Module.{term, target_of, base_for, constant, constants};
+ghost use Rattle.obj_read.specs.Module.{same_place, term, target_of, base_for, constant, leaders, constants};
 ghost use Rattle.obj_read.specs.Placed.{IsGathered, IsJoined, HasNumber};
 
 use crate::building::{base_of, number_or};
 use crate::dictionary::Dictionary;
+use crate::few::FEW;
 use crate::flags::{is_minus, kind_of, length_of};
 use crate::terms::BytePlace;
 use le_bytes::Items;
@@ -26,6 +28,104 @@ struct Gathered {
 /// # Errors
 /// Want of memory.
 pub fn constants(
+    alloc: Global,
+    items: &Dictionary,
+    terms: &[CardRld],
+) -> Result<Items<SymConst>, AllocError>
+    requires { length items.now < 2 ^ 32 }
+    ensures { IfOk result (λ made. made ≡ constants items.now terms.now) }
+{
+    if terms.len() <= FEW {
+        few_constants(alloc, items, terms)
+    } else {
+        many_constants(alloc, items, terms)
+    }
+}
+
+/// The constants of few terms: one for each term with no other before it at its place.
+fn few_constants(
+    alloc: Global,
+    items: &Dictionary,
+    terms: &[CardRld],
+) -> Result<Items<SymConst>, AllocError>
+    requires { length items.now < 2 ^ 32 }
+    ensures { IfOk result (λ made. made ≡ constants items.now terms.now) }
+{
+    let mut made = Vec::with_capacity(alloc, terms.len())?;
+    for k in 0..terms.len() {
+        made = with_constant(alloc, items, terms, k, made)?;
+    }
+    Ok(Items::from_vec(made))
+}
+
+/// The constants whose first terms are among the first `k`, and that of term `k` if it is a first.
+fn with_constant(
+    alloc: Global,
+    items: &Dictionary,
+    terms: &[CardRld],
+    k: usize,
+    made: Vec<SymConst>,
+) -> Result<Vec<SymConst>, AllocError>
+    requires few { length items.now < 2 ^ 32 }
+    requires within { k < length terms.now }
+    requires before { made.items ≡ map (constant items.now terms.now) (leaders [] (take k terms.now)) }
+    ensures { IfOk result (λ more. more.items ≡ map (constant items.now terms.now) (leaders [] (take (k + 1) terms.now))) }
+{
+    let mut made = made;
+    if has_place(&terms[..k], &terms[k]) {
+        return Ok(made);
+    }
+    made.push(constant(alloc, items, terms, &terms[k])?)?;
+    Ok(made)
+}
+
+/// Whether one of the terms has the place of `f`.
+fn has_place(terms: &[CardRld], f: &CardRld) -> bool
+    ensures { result ≡ list_any (same_place f.now) terms.now }
+{
+    terms.iter().any(|g| is_same_place(f, g))
+}
+
+fn is_same_place(f: &CardRld, g: &CardRld) -> bool
+    ensures { result ≡ same_place f.now g.now }
+{
+    f.p == g.p && f.address == g.address
+}
+
+/// The constant at the place of `f`, with all terms of that place.
+fn constant(
+    alloc: Global,
+    items: &Dictionary,
+    terms: &[CardRld],
+    f: &CardRld,
+) -> Result<SymConst, AllocError>
+    requires { length items.now < 2 ^ 32 }
+    ensures { IfOk result (λ made. made ≡ constant items.now terms.now f.now) }
+{
+    Ok(constant_of(items, f, terms_at(alloc, items, terms, f)?))
+}
+
+/// The terms of a constant: those at the place of `f`.
+fn terms_at(
+    alloc: Global,
+    items: &Dictionary,
+    terms: &[CardRld],
+    f: &CardRld,
+) -> Result<Items<SymTerm>, AllocError>
+    requires { length items.now < 2 ^ 32 }
+    ensures { IfOk result (λ made. made ≡ map (term items.now) (filter (same_place f.now) terms.now)) }
+{
+    let mut made = Vec::with_capacity(alloc, 1)?;
+    for g in terms {
+        if is_same_place(f, g) {
+            made.push(term(items, g))?;
+        }
+    }
+    Ok(Items::from_vec(made))
+}
+
+/// The constants of terms however many: the constant of each place is found by a map.
+fn many_constants(
     alloc: Global,
     items: &Dictionary,
     terms: &[CardRld],
@@ -101,13 +201,21 @@ fn alone(alloc: Global, items: &Dictionary, f: &CardRld) -> Result<SymConst, All
 {
     let mut terms = Items::new(alloc);
     terms.push(term(items, f))?;
-    Ok(SymConst {
+    Ok(constant_of(items, f, terms))
+}
+
+/// The constant at the place of `f` with the terms that are given.
+fn constant_of(items: &Dictionary, f: &CardRld, terms: Items<SymTerm>) -> SymConst
+    requires { length items.now < 2 ^ 32 }
+    ensures { result ≡ record (constant items.now [] f.now) { terms = terms } }
+{
+    SymConst {
         item: number_or(items, f.p),
         offset: f.address.saturating_sub(base_of(items, f.p)),
         length: length_of(f),
         kind: kind_of(f),
         terms,
-    })
+    }
 }
 
 fn with_number(

@@ -1,12 +1,13 @@
 //! The items of a deck, found by their ESDID.
-ghost use Rattle.std.specs.Prelude.{◌≡◌, ◌+◌, ◌<◌, ◌^◌, ◌++◌, ◌∷◌, [], length, slice_get, Some, IfOk, IfSome};
+ghost use Rattle.std.specs.Prelude.{◌≡◌, ◌+◌, ◌<◌, ◌^◌, ◌++◌, ◌∷◌, [], length, slice_get, Some, IfOk, OnOk, IfSome};
 ghost use Rattle.std.specs.List.{list_any};
 ghost use Rattle.obj_read.specs.Facts.{has_esdid, number_of};
 ghost use Rattle.obj_read.specs.Module.{lacks_length, with_length};
-ghost use Rattle.obj_read.specs.Indexed.{HasPlace};
+ghost use Rattle.obj_read.specs.Indexed.{HasPlace, IsIndexed};
 ghost use Rattle.obj_read.specs.Found.{IsFound};
 
-use crate::kinds::has_text;
+use crate::few::FEW;
+use crate::kinds::{has_text, is_label};
 use crate::numbered::Numbered;
 use obj_cards::{EsdItem, EsdKind};
 use std::alloc::{AllocError, Global};
@@ -17,20 +18,21 @@ use std::marker::Model;
 #[derive(Drop)]
 pub struct Dictionary {
     items: Vec<Numbered>,
-    /// The place in `items` of the first item, no label, with an ESDID.
-    places: HashMap<u32, usize>,
+    /// The place in `items` of the first item, no label, with an ESDID. There is no map while the
+    /// items are few.
+    places: Option<HashMap<u32, usize>>,
 }
 
 impl Model for Dictionary {
     ghost use Rattle.std.specs.Prelude.{List};
     ghost use Rattle.obj_read.specs.declared.numbered.Numbered.{Numbered};
-    ghost use Rattle.obj_read.specs.Indexed.{IsIndexed};
+    ghost use Rattle.obj_read.specs.Indexed.{IsIndexedIfMany};
 
     ghost Value = { List Numbered };
 
     ghost view = { λ d. d.items.items };
 
-    ghost invariant = { λ d. IsIndexed d.items.items d.places };
+    ghost invariant = { λ d. IsIndexedIfMany d.items.items d.places };
 }
 
 /// An item and its place in the dictionary.
@@ -47,21 +49,47 @@ impl Dictionary {
     {
         Dictionary {
             items: Vec::new(alloc),
-            places: HashMap::new(alloc),
+            places: None,
         }
     }
 
-    /// The dictionary with one more item.
+    /// Puts an item at the end.
     ///
     /// # Errors
     /// Want of memory.
-    pub fn with(self, item: Numbered) -> Result<Dictionary, AllocError>
-        ensures { IfOk result (λ more. more ≡ self ++ item ∷ []) }
+    pub fn push(&mut self, item: Numbered) -> Result<(), AllocError>
+        ensures { OnOk result (self.new ≡ self.old ++ item ∷ []) }
     {
-        let Dictionary { mut items, places } = self;
-        let places = with_place(places, &item, items.len())?;
-        items.push(item)?;
-        Ok(Dictionary { items, places })
+        if self.places.is_some() {
+            return self.push_placed(item);
+        }
+        self.items.push(item)?;
+        if self.items.len() > FEW {
+            self.map()?;
+        }
+        Ok(())
+    }
+
+    /// Puts an item at the end, and its place into the map.
+    fn push_placed(&mut self, item: Numbered) -> Result<(), AllocError>
+        ensures { OnOk result (self.new ≡ self.old ++ item ∷ []) }
+    {
+        let place = self.items.len();
+        let places = self.places.take();
+        self.items.push(item)?;
+        if let Some(places) = places {
+            self.places = Some(with_place(places, &item, place)?);
+        }
+        Ok(())
+    }
+
+    /// Makes the map of the items.
+    fn map(&mut self) -> Result<(), AllocError>
+        ensures { OnOk result (self.new ≡ self.old) }
+    {
+        let places = places_of(*self.items.allocator(), self.items.as_slice())?;
+        self.places = Some(places);
+        Ok(())
     }
 
     /// The place of the item, no label, with an ESDID.
@@ -69,7 +97,10 @@ impl Dictionary {
         ensures number { result ≡ number_of esdid self.now }
         ensures within { IfSome result (λ number. number < length self.now) }
     {
-        self.places.get(&esdid).copied()
+        match &self.places {
+            Some(places) => places.get(&esdid).copied(),
+            None => number_of(self.items.as_slice(), esdid),
+        }
     }
 
     /// The item, no label, with an ESDID, and its place.
@@ -103,15 +134,13 @@ impl Dictionary {
         }
     }
 
-    /// The dictionary with the length of the first control section that has none.
+    /// Gives a length to the first control section that has none.
     #[tactic(auto, using(crate::proofs::Positions::length_of_longer))]
-    pub fn with_length(self, given: u32) -> Dictionary
-        ensures items { result ≡ with_length given self }
-        ensures same { length result ≡ length self }
+    pub fn give_length(&mut self, given: u32)
+        ensures items { self.new ≡ with_length given self.old }
+        ensures same { length self.new ≡ length self.old }
     {
-        let Dictionary { items, places } = self;
-        let items = give_length(items, given);
-        Dictionary { items, places }
+        give_length(self.items.as_mut_slice(), given);
     }
 
     /// The items, in order.
@@ -120,6 +149,31 @@ impl Dictionary {
     {
         self.items.as_slice()
     }
+}
+
+/// The place of the item, no label, with an ESDID.
+fn number_of(items: &[Numbered], esdid: u32) -> Option<usize>
+    ensures { result ≡ number_of esdid items.now }
+{
+    items.iter().position(|x| has_esdid(x, esdid))
+}
+
+/// Whether the item is no label and has the ESDID.
+fn has_esdid(x: &Numbered, esdid: u32) -> bool
+    ensures { result ≡ has_esdid esdid x.now }
+{
+    !is_label(x.item.kind) && x.esdid == esdid
+}
+
+/// The map of the items.
+fn places_of(alloc: Global, items: &[Numbered]) -> Result<HashMap<u32, usize>, AllocError>
+    ensures { IfOk result (IsIndexed items.now) }
+{
+    let mut places = HashMap::new(alloc);
+    for k in 0..items.len() {
+        places = with_place(places, &items[k], k)?;
+    }
+    Ok(places)
 }
 
 /// The places with that of one more item at the end, unless it is a label or its ESDID has a place.
@@ -138,21 +192,19 @@ fn with_place(
     Ok(places)
 }
 
-fn give_length(items: Vec<Numbered>, length: u32) -> Vec<Numbered>
-    ensures { result.items ≡ with_length length items.items }
+fn give_length(items: &mut [Numbered], length: u32)
+    ensures { items.new ≡ with_length length items.old }
 {
-    let mut items = items;
     for i in 0..items.len() {
-        let x = item_at(items.as_slice(), i);
+        let x = item_at(items, i);
         if lacks_length(&x) {
             items[i] = Numbered {
                 esdid: x.esdid,
                 item: EsdItem { length, ..x.item },
             };
-            return items;
+            return;
         }
     }
-    items
 }
 
 fn item_at(items: &[Numbered], place: usize) -> Numbered

@@ -1,10 +1,10 @@
 //! One card after others: its fault, or the facts with what it says.
-ghost use Rattle.std.specs.Prelude.{◌≡◌, ◌+◌, ◌<◌, ◌≤◌, ◌^◌, ◌++◌, ◌∷◌, [], take, length, IfOk};
+ghost use Rattle.std.specs.Prelude.{◌≡◌, ◌+◌, ◌<◌, ◌≤◌, ◌^◌, ◌++◌, ◌∷◌, [], take, length, IfOk, OnOk};
 ghost use Rattle.obj_cards.specs.Cards.{card_of, IsCard};
 ghost use Rattle.obj_read.specs.Facts.{numbered};
 ghost use Rattle.obj_read.specs.Faults.{item_fault, items_fault, term_fault, terms_fault, text_fault};
 ghost use Rattle.obj_read.specs.Kept.{StaysKept};
-ghost use Rattle.obj_read.specs.Steps.{Adds, Steps, step_of, unless, fault_in};
+ghost use Rattle.obj_read.specs.Steps.{Adds, Steps, step_of, stepped, unless, fault_in};
 
 use crate::dictionary::Dictionary;
 use crate::ending::fault_at_end;
@@ -17,85 +17,63 @@ use crate::terms::Terms;
 use le_bytes::CardWhat;
 use obj_cards::{Card, CardRld, EndCard, EndStart, EsdItem, TxtCard, read_card};
 
-/// The facts with a card, and where the program begins if the card ends the deck. Its items have
-/// their lengths then.
+/// What a card makes of the facts of the cards before it: the facts with the card, and where the
+/// program begins if the card ends the deck. Its items have their lengths then. Contracts speak of
+/// it; the code changes the facts in their place.
 #[derive(Drop)]
 pub struct Step {
     pub facts: Facts,
     pub start: Option<EndStart>,
 }
 
-/// A card after those that gave the facts.
-pub fn read_step(facts: Facts, bytes: &[u8; 80]) -> Result<Step, Wrong>
-    ensures exact { Steps (step_of facts (card_of bytes.now)) result }
-    ensures kept { IfOk result (StaysKept facts) }
-    ensures few { IfOk result (λ step. length step.facts.items ≤ length facts.items + 3) }
+/// Adds a card to the facts of those before it, and answers where the program begins if the card
+/// ends the deck.
+///
+/// # Errors
+/// The fault of the card, or want of memory. The facts are of no use then.
+pub fn read_step(facts: &mut Facts, bytes: &[u8; 80]) -> Result<Option<EndStart>, Wrong>
+    ensures exact { Steps (step_of facts.old (card_of bytes.now)) (stepped facts.new result) }
+    ensures kept { IfOk (stepped facts.new result) (StaysKept facts.old) }
+    ensures few { OnOk result (length facts.new.items ≤ length facts.old.items + 3) }
 {
-    match read_card(bytes) {
+    match &read_card(bytes) {
         Err(fault) => Err(Wrong::Card(fault.what())),
-        Ok(card) => with_card(facts, &card),
+        Ok(card) => add_card(facts, card),
     }
 }
 
-/// A card that has no fault of its own.
-fn with_card(facts: Facts, card: &Card) -> Result<Step, Wrong>
+/// Adds a card that has no fault of its own.
+fn add_card(facts: &mut Facts, card: &Card) -> Result<Option<EndStart>, Wrong>
     requires { IsCard card.now }
-    ensures exact { Steps (unless facts card.now (fault_in facts card.now)) result }
-    ensures few { IfOk result (λ step. length step.facts.items ≤ length facts.items + 3) }
+    ensures exact { Steps (unless facts.old card.now (fault_in facts.old card.now)) (stepped facts.new result) }
+    ensures few { OnOk result (length facts.new.items ≤ length facts.old.items + 3) }
 {
     match card {
-        Card::Esd(e) => {
-            let Facts {
-                items,
-                texts,
-                terms,
-            } = facts;
-            let items = with_items(items, e.esdid, &e.items[..usize::from(e.count)])?;
-            Ok(go_on(Facts {
-                items,
-                texts,
-                terms,
-            }))
-        }
-        Card::Txt(t) => Ok(go_on(with_text(facts, t)?)),
-        Card::Rld(r) => {
-            let Facts {
-                items,
-                texts,
-                terms,
-            } = facts;
-            let terms = with_terms(&items, terms, &r.items[..usize::from(r.count)])?;
-            Ok(go_on(Facts {
-                items,
-                texts,
-                terms,
-            }))
-        }
-        Card::End(e) => with_end(facts, e),
-        Card::Sym => Ok(go_on(facts)),
-        _ => Err(Wrong::Card(CardWhat::NoEnd)),
+        Card::Esd(e) => add_items(&mut facts.items, e.esdid, &e.items[..usize::from(e.count)])?,
+        Card::Txt(t) => add_text(facts, t)?,
+        Card::Rld(r) => add_terms(
+            &facts.items,
+            &mut facts.terms,
+            &r.items[..usize::from(r.count)],
+        )?,
+        Card::End(e) => return add_end(facts, e),
+        Card::Sym => {}
+        _ => return Err(Wrong::Card(CardWhat::NoEnd)),
     }
+    Ok(None)
 }
 
-/// The deck goes on after the card.
-fn go_on(facts: Facts) -> Step
-    ensures { result ≡ record { facts = facts; start = None } }
-{
-    Step { facts, start: None }
-}
-
-/// The items of an ESD card, numbered from its ESDID on.
-fn with_items(items: Dictionary, esdid: u32, more: &[EsdItem]) -> Result<Dictionary, Wrong>
+/// Adds the items of an ESD card, numbered from its ESDID on.
+fn add_items(items: &mut Dictionary, esdid: u32, more: &[EsdItem]) -> Result<(), Wrong>
     requires few { length more.now ≤ 3 }
     requires esdid { esdid < 2 ^ 16 }
-    ensures exact { Adds (items_fault items (numbered esdid more.now)) (items ++ numbered esdid more.now) result }
-    ensures few { IfOk result (λ all. length all ≡ length items + length more.now) }
+    ensures exact { Adds (items_fault items.old (numbered esdid more.now)) (items.old ++ numbered esdid more.now) items.new result }
+    ensures few { OnOk result (length items.new ≡ length items.old + length more.now) }
 {
-    let mut items = items;
     let mut next = esdid;
     for item in more {
         if is_label(item.kind) {
-            items = with_item(
+            add_item(
                 items,
                 Numbered {
                     esdid: 0,
@@ -103,7 +81,7 @@ fn with_items(items: Dictionary, esdid: u32, more: &[EsdItem]) -> Result<Diction
                 },
             )?;
         } else {
-            items = with_item(
+            add_item(
                 items,
                 Numbered {
                     esdid: next,
@@ -113,86 +91,59 @@ fn with_items(items: Dictionary, esdid: u32, more: &[EsdItem]) -> Result<Diction
             next += 1;
         }
     }
-    Ok(items)
+    Ok(())
 }
 
-fn with_item(items: Dictionary, x: Numbered) -> Result<Dictionary, Wrong>
-    ensures { Adds (item_fault items x) (items ++ x ∷ []) result }
+fn add_item(items: &mut Dictionary, x: Numbered) -> Result<(), Wrong>
+    ensures { Adds (item_fault items.old x) (items.old ++ x ∷ []) items.new result }
 {
-    match item_fault(&items, &x) {
+    match item_fault(items, &x) {
         Some(what) => Err(Wrong::Card(what)),
-        None => Ok(items.with(x)?),
+        None => Ok(items.push(x)?),
     }
 }
 
-fn with_text(facts: Facts, t: &TxtCard) -> Result<Facts, Wrong>
-    ensures { Adds (text_fault facts.items t.now) (record facts { texts = facts.texts ++ t.now ∷ [] }) result }
+fn add_text(facts: &mut Facts, t: &TxtCard) -> Result<(), Wrong>
+    ensures { Adds (text_fault facts.old.items t.now) (record facts.old { texts = facts.old.texts ++ t.now ∷ [] }) facts.new result }
 {
-    let Facts {
-        items,
-        mut texts,
-        terms,
-    } = facts;
-    match text_fault(&items, t) {
+    match text_fault(&facts.items, t) {
         Some(what) => Err(Wrong::Card(what)),
-        None => {
-            texts.push(*t)?;
-            Ok(Facts {
-                items,
-                texts,
-                terms,
-            })
-        }
+        None => Ok(facts.texts.push(*t)?),
     }
 }
 
-/// The terms of an RLD card.
-fn with_terms(items: &Dictionary, terms: Terms, more: &[CardRld]) -> Result<Terms, Wrong>
-    ensures { Adds (terms_fault items.now terms more.now) (terms ++ more.now) result }
+/// Adds the terms of an RLD card.
+fn add_terms(items: &Dictionary, terms: &mut Terms, more: &[CardRld]) -> Result<(), Wrong>
+    ensures { Adds (terms_fault items.now terms.old more.now) (terms.old ++ more.now) terms.new result }
 {
-    let mut terms = terms;
     for term in more {
-        match with_term(items, terms, term) {
-            Ok(all) => terms = all,
+        match add_term(items, terms, term) {
+            Ok(()) => {}
             Err(wrong) => return Err(wrong),
         }
     }
-    Ok(terms)
+    Ok(())
 }
 
-fn with_term(items: &Dictionary, terms: Terms, term: &CardRld) -> Result<Terms, Wrong>
-    ensures { Adds (term_fault items.now terms term.now) (terms ++ term.now ∷ []) result }
+fn add_term(items: &Dictionary, terms: &mut Terms, term: &CardRld) -> Result<(), Wrong>
+    ensures { Adds (term_fault items.now terms.old term.now) (terms.old ++ term.now ∷ []) terms.new result }
 {
-    match term_fault(items, &terms, term) {
+    match term_fault(items, terms, term) {
         Some(what) => Err(Wrong::Card(what)),
-        None => Ok(terms.with(*term)?),
+        None => Ok(terms.push(*term)?),
     }
 }
 
-/// The END card: the items get their lengths first.
-fn with_end(facts: Facts, end: &EndCard) -> Result<Step, Wrong>
-    ensures exact { Steps (unless facts (Card.End end.now) (fault_in facts (Card.End end.now))) result }
-    ensures few { IfOk result (λ step. length step.facts.items ≡ length facts.items) }
+/// Adds the END card: the items get their lengths first.
+fn add_end(facts: &mut Facts, end: &EndCard) -> Result<Option<EndStart>, Wrong>
+    ensures exact { Steps (unless facts.old (Card.End end.now) (fault_in facts.old (Card.End end.now))) (stepped facts.new result) }
+    ensures few { OnOk result (length facts.new.items ≡ length facts.old.items) }
 {
-    let Facts {
-        items,
-        texts,
-        terms,
-    } = facts;
-    let items = match end.length {
-        Some(length) => items.with_length(length),
-        None => items,
-    };
-    let facts = Facts {
-        items,
-        texts,
-        terms,
-    };
-    match fault_at_end(&facts, &end.start) {
+    if let Some(length) = end.length {
+        facts.items.give_length(length);
+    }
+    match fault_at_end(facts, &end.start) {
         Some(what) => Err(Wrong::Card(what)),
-        None => Ok(Step {
-            facts,
-            start: Some(end.start),
-        }),
+        None => Ok(Some(end.start)),
     }
 }

@@ -7,6 +7,7 @@ mod dictionary;
 mod ending;
 mod facts;
 mod fault;
+mod few;
 mod flags;
 mod gathering;
 mod judging;

@@ -41,13 +41,10 @@ pub fn read_module(alloc: Global, cards: &[[u8; 80]]) -> Result<(SymModule, usiz
 {
     let mut facts = Facts::new(alloc);
     for place in 0..cards.len() {
-        let step = match read_step(facts, &cards[place]) {
-            Ok(step) => step,
+        match read_step(&mut facts, &cards[place]) {
+            Ok(None) => {}
+            Ok(Some(start)) => return Ok((made(alloc, &facts, &start)?, place + 1)),
             Err(wrong) => return Err(wrong.at(place)),
-        };
-        match step.start {
-            Some(start) => return Ok((made(alloc, step.facts, &start)?, place + 1)),
-            None => facts = step.facts,
         }
     }
     Err(ObjFault::At(cards.len(), CardWhat::NoEnd))

@@ -1,9 +1,10 @@
 //! The terms of the address constants of a deck, found by the bytes of their fields.
-ghost use Rattle.std.specs.Prelude.{◌≡◌, ◌++◌, ◌∷◌, [], find, IfOk};
-ghost use Rattle.obj_read.specs.Covered.{CoversByte, CoversBytes};
+ghost use Rattle.std.specs.Prelude.{◌≡◌, ◌++◌, ◌∷◌, [], find, IfOk, OnOk};
+ghost use Rattle.obj_read.specs.Covered.{IsCovered, CoversByte, CoversBytes};
 ghost use Rattle.obj_read.specs.Faults.{covers};
 ghost use Rattle.obj_read.specs.Flags.{length_of_flag};
 
+use crate::few::FEW;
 use crate::flags::length_of;
 use obj_cards::CardRld;
 use std::alloc::{AllocError, Global};
@@ -21,20 +22,20 @@ pub struct BytePlace {
 #[derive(Drop)]
 pub struct Terms {
     terms: Vec<CardRld>,
-    /// The first term whose field a byte stands in.
-    covered: HashMap<BytePlace, CardRld>,
+    /// The first term whose field a byte stands in. There is no map while the terms are few.
+    covered: Option<HashMap<BytePlace, CardRld>>,
 }
 
 impl Model for Terms {
     ghost use Rattle.std.specs.Prelude.{List};
     ghost use Rattle.obj_cards.specs.declared.card.CardRld.{CardRld};
-    ghost use Rattle.obj_read.specs.Covered.{IsCovered};
+    ghost use Rattle.obj_read.specs.Covered.{IsCoveredIfMany};
 
     ghost Value = { List CardRld };
 
     ghost view = { λ t. t.terms.items };
 
-    ghost invariant = { λ t. IsCovered t.terms.items t.covered };
+    ghost invariant = { λ t. IsCoveredIfMany t.terms.items t.covered };
 }
 
 impl Terms {
@@ -44,28 +45,56 @@ impl Terms {
     {
         Terms {
             terms: Vec::new(alloc),
-            covered: HashMap::new(alloc),
+            covered: None,
         }
     }
 
-    /// The terms with one more.
+    /// Puts a term at the end.
     ///
     /// # Errors
     /// Want of memory.
-    pub fn with(self, term: CardRld) -> Result<Terms, AllocError>
-        ensures { IfOk result (λ more. more ≡ self ++ term ∷ []) }
+    pub fn push(&mut self, term: CardRld) -> Result<(), AllocError>
+        ensures { OnOk result (self.new ≡ self.old ++ term ∷ []) }
     {
-        let Terms { mut terms, covered } = self;
-        let covered = with_field(covered, &term)?;
-        terms.push(term)?;
-        Ok(Terms { terms, covered })
+        if self.covered.is_some() {
+            return self.push_covered(term);
+        }
+        self.terms.push(term)?;
+        if self.terms.len() > FEW {
+            self.map()?;
+        }
+        Ok(())
+    }
+
+    /// Puts a term at the end, and the bytes of its field into the map.
+    fn push_covered(&mut self, term: CardRld) -> Result<(), AllocError>
+        ensures { OnOk result (self.new ≡ self.old ++ term ∷ []) }
+    {
+        let covered = self.covered.take();
+        self.terms.push(term)?;
+        if let Some(covered) = covered {
+            self.covered = Some(with_field(covered, &term)?);
+        }
+        Ok(())
+    }
+
+    /// Makes the map of the terms.
+    fn map(&mut self) -> Result<(), AllocError>
+        ensures { OnOk result (self.new ≡ self.old) }
+    {
+        let covered = covered_by(*self.terms.allocator(), self.terms.as_slice())?;
+        self.covered = Some(covered);
+        Ok(())
     }
 
     /// The first term in whose field a byte stands.
     pub fn covering(&self, section: u32, byte: u64) -> Option<CardRld>
         ensures { result ≡ find (covers section byte) self.now }
     {
-        self.covered.get(&BytePlace { section, byte }).copied()
+        match &self.covered {
+            Some(covered) => covered.get(&BytePlace { section, byte }).copied(),
+            None => first_covering(self.terms.as_slice(), section, byte),
+        }
     }
 
     /// The terms, in order.
@@ -74,6 +103,37 @@ impl Terms {
     {
         self.terms.as_slice()
     }
+}
+
+/// The first of the terms in whose field a byte stands.
+fn first_covering(terms: &[CardRld], section: u32, byte: u64) -> Option<CardRld>
+    ensures { result ≡ find (covers section byte) terms.now }
+{
+    for f in terms {
+        if covers(f, section, byte) {
+            return Some(*f);
+        }
+    }
+    None
+}
+
+/// Whether the byte of the section stands in the field of the term.
+fn covers(f: &CardRld, section: u32, byte: u64) -> bool
+    ensures { result ≡ covers section byte f.now }
+{
+    let from = u64::from(f.address);
+    f.p == section && from <= byte && byte < from + u64::from(length_of(f))
+}
+
+/// The map of the terms.
+fn covered_by(alloc: Global, terms: &[CardRld]) -> Result<HashMap<BytePlace, CardRld>, AllocError>
+    ensures { IfOk result (IsCovered terms.now) }
+{
+    let mut covered = HashMap::new(alloc);
+    for k in 0..terms.len() {
+        covered = with_field(covered, &terms[k])?;
+    }
+    Ok(covered)
 }
 
 /// The map with the term at each byte of its field where it has none.

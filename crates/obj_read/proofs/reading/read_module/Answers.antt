@@ -1,5 +1,6 @@
 use Rattle.std.proofs.Common.{arith, ◌≤◌, length, sym, ◌∙◌, ap, subst}
 use Rattle.sym_mod.specs.Sound.{IsSoundModule}
+use Rattle.obj_read.specs.declared.gathering.Step.{Step}
 use Rattle.obj_read.specs.Steps.{deck_from}
 use Rattle.obj_read.specs.Kept.{IsKept, EndsWell}
 use Rattle.obj_read.proofs.Decks.{deck_is, ends_at, whole_at, more_at, nothing_left}
@@ -19,23 +20,25 @@ returns-in-Err c =
     ends_at c.args.cards.now c.loop-place.facts c.loop-place.place _ c.loop-place.invariant.rest c.loop-place-test.true
     c.in-Err.wrong c.at.result c.at.ensures c.in-Err.ensures.exact
 
-pub returns-in-Some : goal.returns-in-Some
-returns-in-Some c =
-    let kept : IsKept c.in-Ok.step.facts × EndsWell c.in-Ok.step.facts c.in-Ok.step.start = c.in-Ok.ensures.kept c.loop-place.invariant.kept in (
+pub returns-in-Ok-Some : goal.returns-in-Ok-Some
+returns-in-Ok-Some c =
+    let step : Step = record { facts = c.read_step.new.facts; start = c.in-Ok-Some.field-0 } in
+    let kept : IsKept step.facts × EndsWell step.facts step.start = c.in-Ok-Some.ensures.kept c.loop-place.invariant.kept in (
       whole_at c.args.cards.now c.loop-place.facts c.loop-place.place _ c.loop-place.invariant.rest c.loop-place-test.true
-          c.in-Ok.step c.in-Some.start c.in_ok-made-in-Some.field-0 c.in-Ok.ensures.exact c.in-Some.is c.in_ok-made-in-Some.ensures,
+          step c.in-Ok-Some.start c.in_ok-made-in-Ok-Some.field-0 c.in-Ok-Some.ensures.exact c.in-Ok-Some.field-0-is c.in_ok-made-in-Ok-Some.ensures,
       omega arith,
-      subst (λ m. IsSoundModule m) (sym c.in_ok-made-in-Some.ensures)
-          (sound_made c.in-Ok.step.facts c.in-Some.start kept.0 (subst (λ o. EndsWell c.in-Ok.step.facts o) c.in-Some.is kept.1)),
+      subst (λ m. IsSoundModule m) (sym c.in_ok-made-in-Ok-Some.ensures) (sound_made step.facts c.in-Ok-Some.start kept.0 (subst (λ o. EndsWell step.facts o) c.in-Ok-Some.field-0-is kept.1)),
     )
 
 pub loop-place-preserved : goal.loop-place-preserved
-loop-place-preserved c = record {
-  rest = more_at c.args.cards.now c.loop-place.facts c.loop-place.place _ c.loop-place.invariant.rest c.loop-place-test.true
-      c.in-Ok.step c.in-Ok.ensures.exact c.in-None.is;
-  few = omega (arith, c.in-Ok.ensures.few, c.loop-place.invariant.few);
-  kept = (c.in-Ok.ensures.kept c.loop-place.invariant.kept).0;
-}
+loop-place-preserved c =
+    let step : Step = record { facts = c.read_step.new.facts; start = c.in-Ok-None.field-0 } in
+    record {
+      rest = more_at c.args.cards.now c.loop-place.facts c.loop-place.place _ c.loop-place.invariant.rest c.loop-place-test.true
+          step c.in-Ok-None.ensures.exact c.in-Ok-None.field-0-is;
+      few = omega (arith, c.in-Ok-None.ensures.few, c.loop-place.invariant.few);
+      kept = (c.in-Ok-None.ensures.kept c.loop-place.invariant.kept).0;
+    }
 
 pub returns : goal.returns
 returns c = (nothing_left c.args.cards.now c.loop-place.facts c.loop-place.place c.loop-place.invariant.rest (omega arith), omega arith)

@@ -1,7 +1,7 @@
 use Rattle.std.proofs.Common.{◌≡◌, ◌≤◌, ◌+◌, ◌++◌, length, drop}
 use Rattle.obj_read.specs.Facts.{numbered}
 use Rattle.obj_read.specs.Faults.{items_fault}
-use Rattle.obj_read.proofs.gathering.with_items.Given as goal
+use Rattle.obj_read.proofs.gathering.add_items.Given as goal
 
 abbrev pub invariant-loop-item : goal.invariant-loop-item
 invariant-loop-item l = record {

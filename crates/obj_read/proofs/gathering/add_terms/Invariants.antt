@@ -1,6 +1,6 @@
 use Rattle.std.proofs.Common.{◌≡◌, ◌++◌, drop}
 use Rattle.obj_read.specs.Faults.{terms_fault}
-use Rattle.obj_read.proofs.gathering.with_terms.Given as goal
+use Rattle.obj_read.proofs.gathering.add_terms.Given as goal
 
 abbrev pub invariant-loop-term : goal.invariant-loop-term
 invariant-loop-term l = record {
