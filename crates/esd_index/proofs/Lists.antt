@@ -1,6 +1,7 @@
 -- Keys as symbols.
-use Rattle.std.proofs.Common.{◌≡◌, ℕ, ◌+◌, Bool, true, false, cond, List, [], ◌∷◌, ◌++◌, map, position, refl, sym, ap, ◌∙◌}
+use Rattle.std.proofs.Common.{◌≡◌, ℕ, ◌+◌, ◌==◌, length, Bool, true, false, cond, List, [], ◌∷◌, ◌++◌, map, position, refl, sym, ap, ◌∙◌, arith}
 use Rattle.std.specs.List.{list_any, position_from}
+use Rattle.std.proofs.lemmas.Bool.Decides.{nat_tests}
 use Rattle.std.proofs.lemmas.List.{map-append}
 use Rattle.std.proofs.lemmas.Iterator.Adapters.{position_from-zero}
 use Rattle.linking_model.specs.Names.{with_first}
@@ -38,3 +39,8 @@ from_map k n (l ∷ ks) = rw (same_key k l, from_map k (n + 1) ks) refl
 pub position_map : (k : Key) (ks : List Key) → position ((eq-value).it k) ks ≡ position (symbol_eq (as_symbol k)) (map as_symbol ks)
 position_map k ks =
     position_from-zero ((eq-value).it k) ks ∙ from_map k 0 ks ∙ sym (position_from-zero (symbol_eq (as_symbol k)) (map as_symbol ks))
+
+-- no key is among none
+pub none_there : (k : Key) (ks : List Key) → (length ks == 0) ≡ true → false ≡ list_any (symbol_eq (as_symbol k)) (map as_symbol ks)
+none_there k [] e = refl
+none_there k (l ∷ ks) e = absurd (grind (arith, nat_tests, e))

@@ -52,7 +52,7 @@ sorted_pairs kept k [] = []
 sorted_pairs kept k (c ∷ cs) =
     cond (flag_at kept c.item) (inserted placed_before (k, c) (sorted_pairs kept (k + 1) cs)) (sorted_pairs kept (k + 1) cs)
 
-all_chosen : {A : Type 0} (P : A → Type 0) (b : Bool) (xs ys : List A) → AllByRecursion P xs → AllByRecursion P ys → AllByRecursion P (cond b xs ys)
+pub all_chosen : {A : Type 0} (P : A → Type 0) (b : Bool) (xs ys : List A) → AllByRecursion P xs → AllByRecursion P ys → AllByRecursion P (cond b xs ys)
 all_chosen P true xs ys a b = a
 all_chosen P false xs ys a b = b
 
@@ -61,7 +61,7 @@ all_inserted before P x [] here all = (here, tt)
 all_inserted before P x (y ∷ ys) here all =
     all_chosen P (before y x) (y ∷ inserted before x ys) (x ∷ y ∷ ys) (all.0, all_inserted before P x ys here all.1) (here, all)
 
-all_weaker : {A : Type 0} (P Q : A → Type 0) → ((x : A) → P x → Q x) → (xs : List A) → AllByRecursion P xs → AllByRecursion Q xs
+pub all_weaker : {A : Type 0} (P Q : A → Type 0) → ((x : A) → P x → Q x) → (xs : List A) → AllByRecursion P xs → AllByRecursion Q xs
 all_weaker P Q f [] all = tt
 all_weaker P Q f (x ∷ xs) all = (f x all.0, all_weaker P Q f xs all.1)
 

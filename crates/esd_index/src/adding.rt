@@ -4,14 +4,14 @@ ghost use Rattle.esd_index.specs.Contents.{now_of, marked_of};
 ghost use Rattle.esd_index.specs.Steps.{with_constant};
 ghost use Rattle.esd_index.specs.Modules.{kept_in_order, noted_module, NotesModule};
 
-use crate::constants::spots_in_order;
+use crate::constants::{spots_in_order, stand_in_order};
 use crate::index::Index;
 use crate::noting::Stop;
 use std::alloc::{AllocError, Global};
 use sym_mod::SymModule;
 
 impl Index {
-    #[tactic(auto, using(crate::proofs::Sorting::fold_spots))]
+    #[tactic(auto, using(crate::proofs::Sorting::fold_spots, crate::proofs::Rising::fold_rising))]
     fn note_kept_constants(
         &mut self,
         alloc: Global,
@@ -21,6 +21,9 @@ impl Index {
         ensures noted { OnOk result (now_of self.new ≡ fold (with_constant m.now.items) (now_of self.old) (kept_in_order kept.now m.now.constants)) }
         ensures marked { marked_of self.new ≡ marked_of self.old }
     {
+        if stand_in_order(m.constants.as_slice()) {
+            return self.note_all_kept(m.items.as_slice(), kept, m.constants.as_slice());
+        }
         let spots = spots_in_order(alloc, m.constants.as_slice(), kept)?;
         self.note_constants(m.items.as_slice(), m.constants.as_slice(), spots.as_slice())
     }

@@ -5,8 +5,8 @@ ghost use Rattle.linking_model.specs.Kept.{stands_before};
 ghost use Rattle.esd_index.specs.declared.constants.Spot.{Spot};
 ghost use Rattle.esd_index.specs.Contents.{now_of, marked_of};
 ghost use Rattle.esd_index.specs.Steps.{flag_at, with_target, with_constant};
-ghost use Rattle.esd_index.specs.Ordered.{constants_at, with_spot};
-ghost use Rattle.esd_index.specs.Sorted.{sorted_from};
+ghost use Rattle.esd_index.specs.Ordered.{constants_at, with_spot, with_kept};
+ghost use Rattle.esd_index.specs.Sorted.{sorted_from, rise_from};
 
 use crate::index::Index;
 use crate::key::flag_at;
@@ -20,6 +20,22 @@ pub(crate) struct Spot {
     item: u32,
     offset: u32,
     place: usize,
+}
+
+/// Whether the constants stand in order as they are.
+pub(crate) fn stand_in_order(constants: &[SymConst]) -> bool
+    ensures { result ≡ rise_from 0 0 constants.now }
+{
+    let mut item = 0;
+    let mut offset = 0;
+    for constant in constants {
+        if constant.item < item || (constant.item == item && constant.offset < offset) {
+            return false;
+        }
+        item = constant.item;
+        offset = constant.offset;
+    }
+    true
 }
 
 fn kept_spots(
@@ -109,6 +125,38 @@ impl Index {
     {
         for spot in spots {
             self.note_spot(items, constants, *spot)?;
+        }
+        Ok(())
+    }
+
+    #[tactic(auto, unfolding(crate::specs::Ordered::with_kept))]
+    fn note_kept(
+        &mut self,
+        items: &[Item],
+        kept: &[bool],
+        constant: &SymConst,
+    ) -> Result<(), AllocError>
+        ensures noted { OnOk result (now_of self.new ≡ with_kept items.now kept.now (now_of self.old) constant.now) }
+        ensures marked { marked_of self.new ≡ marked_of self.old }
+    {
+        if !flag_at(kept, constant.item as usize) {
+            return Ok(());
+        }
+        self.note_constant(items, constant)
+    }
+
+    /// Notes the names to which the constants in marked items refer, as they stand.
+    pub(crate) fn note_all_kept(
+        &mut self,
+        items: &[Item],
+        kept: &[bool],
+        constants: &[SymConst],
+    ) -> Result<(), AllocError>
+        ensures noted { OnOk result (now_of self.new ≡ fold (with_kept items.now kept.now) (now_of self.old) constants.now) }
+        ensures marked { marked_of self.new ≡ marked_of self.old }
+    {
+        for constant in constants {
+            self.note_kept(items, kept, constant)?;
         }
         Ok(())
     }

@@ -1,5 +1,5 @@
 //! What the modules that were read say of each symbol.
-ghost use Rattle.std.specs.Prelude.{◌≡◌, ◌&&◌, ◌||◌, not, [], ◌∷◌, is_some, option_map, OnOk};
+ghost use Rattle.std.specs.Prelude.{◌≡◌, ◌&&◌, ◌||◌, not, [], ◌∷◌, is_some, option_map, OnOk, IfOk};
 ghost use Rattle.std.specs.List.{list_any};
 ghost use Rattle.sym_mod.specs.Kinds.{is_sd, kind_of};
 ghost use Rattle.linking_model.specs.Kept.{symbol_eq, ByName, name_in};
@@ -7,7 +7,7 @@ ghost use Rattle.esd_index.specs.Keys.{as_symbol, sight};
 ghost use Rattle.esd_index.specs.Contents.{now_of, marked_of};
 ghost use Rattle.esd_index.specs.Steps.{with_sight, label_meant, with_control, with_target, clashes_over, is_kept_over};
 
-use crate::key::{Key, Sighted, section_name};
+use crate::key::{Key, Sighted};
 use crate::symbols::Symbols;
 use std::alloc::{AllocError, Global};
 use sym_mod::{Item, ItemKind, SymTarget, SymTerm};
@@ -84,23 +84,18 @@ impl Index {
         self.labelled.go_back();
     }
 
-    /// Whether a section is kept, where the SD items before it are noted.
-    pub(crate) fn keeps(&self, x: &Item) -> bool
-        ensures { result ≡ is_kept_over (now_of self.now).controls x.now (kind_of x.now) }
-    {
-        match x.kind_kept() {
-            ItemKind::Sd => !self.controls.has(&Key::Named(x.name)),
-            ItemKind::Pc => true,
-            ItemKind::Cm => true,
-            _ => false,
-        }
-    }
-
-    pub(crate) fn note_control(&mut self, x: &Item) -> Result<(), AllocError>
+    /// Whether a section is kept, where the SD items before it are noted; and notes it.
+    pub(crate) fn keep_item(&mut self, x: &Item) -> Result<bool, AllocError>
+        ensures kept { IfOk result (λ kept. kept ≡ is_kept_over (now_of self.old).controls x.now (kind_of x.now)) }
         ensures noted { OnOk result (now_of self.new ≡ with_control (now_of self.old) x.now) }
         ensures marked { marked_of self.new ≡ marked_of self.old }
     {
-        self.controls.note(section_name(x))
+        match x.kind_kept() {
+            ItemKind::Sd => self.controls.put(Key::Named(x.name)),
+            ItemKind::Pc => Ok(true),
+            ItemKind::Cm => Ok(true),
+            _ => Ok(false),
+        }
     }
 
     /// Whether the item would give its name a second meaning.

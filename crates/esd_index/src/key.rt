@@ -119,13 +119,3 @@ impl Sighted {
         }
     }
 }
-
-/// The name of a section that is not private.
-pub(crate) fn section_name(x: &Item) -> Option<Key>
-    ensures { option_map as_symbol result ≡ named_if is_sd x.now }
-{
-    match x.kind_kept() {
-        ItemKind::Sd => Some(Key::Named(x.name)),
-        _ => None,
-    }
-}

@@ -38,10 +38,9 @@ impl Index {
         ensures noted { IfOk result (λ _. now_of self.new ≡ fold with_control (now_of self.old) items.now) }
         ensures marked { marked_of self.new ≡ marked_of self.old }
     {
-        let mut kept = Vec::new(alloc);
+        let mut kept = Vec::with_capacity(alloc, items.len())?;
         for item in items {
-            kept.push(self.keeps(item))?;
-            self.note_control(item)?;
+            kept.push(self.keep_item(item)?)?;
         }
         Ok(kept)
     }

@@ -1,6 +1,7 @@
 //! A growing list of symbols without repeats.
-ghost use Rattle.std.specs.Prelude.{◌≡◌, ◌<◌, ◌+◌, ◌≤◌, [], ◌∷◌, ◌^◌, length, map, position, option_map, OnOk, IfSome};
+ghost use Rattle.std.specs.Prelude.{◌≡◌, not, ◌<◌, ◌+◌, ◌≤◌, [], ◌∷◌, ◌^◌, length, map, position, option_map, OnOk, IfOk, IfSome};
 ghost use Rattle.std.specs.List.{list_any};
+ghost use Rattle.linking_model.specs.Names.{with_first};
 ghost use Rattle.linking_model.specs.Kept.{symbol_eq};
 ghost use Rattle.esd_index.specs.Keys.{as_symbol};
 ghost use Rattle.esd_index.specs.Marked.{with_some};
@@ -41,7 +42,17 @@ impl Symbols {
         }
     }
 
-    /// Puts a symbol at the end, where it is not there yet. What was marked stays.
+    /// Puts a symbol at the end, where it is not there yet, and answers whether it was not. What was
+    /// marked stays.
+    pub fn put(&mut self, key: Key) -> Result<bool, AllocError>
+        ensures noted { OnOk result (self.new.all ≡ with_first symbol_eq self.old.all (as_symbol key)) }
+        ensures fresh { IfOk result (λ fresh. fresh ≡ not (list_any (symbol_eq (as_symbol key)) self.old.all)) }
+        ensures marked { self.new.marked ≡ self.old.marked }
+    {
+        Ok(self.keys.insert(key)?)
+    }
+
+    /// Puts a symbol at the end, if there is one and it is not there yet. What was marked stays.
     pub fn note(&mut self, key: Option<Key>) -> Result<(), AllocError>
         ensures noted { OnOk result (self.new.all ≡ with_some self.old.all (option_map as_symbol key)) }
         ensures marked { self.new.marked ≡ self.old.marked }
@@ -49,7 +60,7 @@ impl Symbols {
         match key {
             None => Ok(()),
             Some(key) => {
-                self.keys.insert(key)?;
+                self.put(key)?;
                 Ok(())
             }
         }
@@ -73,6 +84,9 @@ impl Symbols {
     pub fn has(&self, key: &Key) -> bool
         ensures { result ≡ list_any (symbol_eq (as_symbol key.now)) self.now.all }
     {
+        if self.keys.as_slice().is_empty() {
+            return false;
+        }
         self.keys.contains(key)
     }
 

@@ -17,7 +17,6 @@ use Rattle.sym_mod.specs.declared.module.SymEntry.{SymEntry}
 use Rattle.sym_mod.specs.declared.module.SymEntry.TheVariants.{None as NoEntry, At, Named as AtName}
 use Rattle.sym_mod.specs.declared.module.SymModule.{SymModule}
 use Rattle.sym_mod.specs.declared.program.Label.{Label}
-use Rattle.sym_mod.specs.declared.program.Unknown.{Unknown}
 use Rattle.sym_mod.specs.declared.program.Register.{Register}
 use Rattle.sym_mod.specs.declared.program.Text.{Text}
 use Rattle.sym_mod.specs.declared.program.Constant.{Constant}
@@ -27,7 +26,7 @@ use Rattle.sym_mod.specs.declared.program.Term.{Term}
 use Rattle.sym_mod.specs.Kinds.{kind_of}
 use Rattle.linking_model.specs.Names.{firsts}
 use Rattle.linking_model.specs.Kept.{Read, ByName, symbol_eq, section_number}
-use Rattle.linking_model.specs.Merged.{labels, unresolved, definition, register_items, register_of, registers, named_target, own_target, meaning, constant_of, constants, text_of, texts, start_of, starts}
+use Rattle.linking_model.specs.Merged.{labels, definition, register_items, register_of, registers, named_target, own_target, meaning, constant_of, constants, text_of, texts, start_of, starts}
 use Rattle.esd_index.specs.Contents.{Contents}
 use Rattle.esd_merge.specs.declared.reading.Reading.{Reading}
 use Rattle.esd_merge.specs.Indexed.{content_of}
@@ -35,7 +34,7 @@ use Rattle.esd_merge.specs.Held.{as_read}
 use Rattle.esd_merge.specs.Looked.{number_by}
 use Rattle.esd_merge.specs.Numbered.{is_named_so}
 use Rattle.esd_merge.specs.Listed.{pushed, name_means, item_means, means, term_by, constant_by, start_by, text_by}
-use Rattle.esd_merge.specs.Whole.{Holds, module_constants, constants_from, starts_from, module_texts, texts_from}
+use Rattle.esd_merge.specs.Whole.{Holds, Means, module_constants, constants_from, starts_from, module_texts, texts_from}
 use Rattle.esd_merge.proofs.Firsts.{name_sym}
 use Rattle.esd_merge.proofs.Parts.{fold_pushed, filter_map_ext, home_here, number_is, registers_is}
 
@@ -51,11 +50,6 @@ from_ext p q same n (x ∷ xs) = rw (same x, from_ext p q same (n + 1) xs) refl
 
 pub numbered : {A : Type 0} (name : A → Name) (y : Name) (xs : List A) → position_from (is_named_so y) 0 (map name xs) ≡ position (λ x. name_eq (name x) y) xs
 numbered name y xs = from_map (is_named_so y) name 0 xs ∙ sym (position_from-zero (λ x. name_eq (name x) y) xs)
-
--- what the meanings say
-pub record Means (rs : List Read) (labels_at unknowns_at : Name → Option ℕ) : Type 0 where
-  pub of_labels : (y : Name) → labels_at y ≡ position (λ (x : Label). name_eq x.name y) (labels rs)
-  pub of_unknowns : (y : Name) → unknowns_at y ≡ position (λ (x : Unknown). name_eq x.name y) (unresolved rs)
 
 name_case : (rs : List Read) (c : Contents) (L U : Name → Option ℕ) → c ≡ content_of rs → Means rs L U → (y : Name) (a b : Option ℕ)
     → section_number rs (ByName y) ≡ a → position (λ (x : Label). name_eq x.name y) (labels rs) ≡ b → name_means c L U y ≡ named_target rs y (definition rs y)

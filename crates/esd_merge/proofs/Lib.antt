@@ -8,6 +8,8 @@ pub mod Gather
 pub mod Parts
 pub mod Unknowns
 pub mod Brought
+pub mod ItemTables
+pub mod Walking
 pub mod Small
 pub mod Whole
 pub mod Defining

@@ -9,4 +9,6 @@ pub mod Listed
 pub mod Looked
 pub mod Numbered
 pub mod Rest
+pub mod Tabled
+pub mod Walked
 pub mod Whole

@@ -1,12 +1,14 @@
 //! What the items of the modules that were read bring, by name.
-ghost use Rattle.std.specs.Prelude.{◌≡◌, map, fold, option_map, None, IfOk, OnOk};
+ghost use Rattle.std.specs.Prelude.{◌≡◌, fold, option_map, None, IfOk, OnOk};
 ghost use Rattle.std.specs.HashMap.{get};
+ghost use Rattle.le_bytes.specs.declared.name.Name.{Name};
 ghost use Rattle.le_bytes.specs.Names.{name_eq};
 ghost use Rattle.sym_mod.specs.Kinds.{kind_of, is_sd, is_cm, is_label, is_register};
 ghost use Rattle.esd_index.specs.Keys.{sight};
 ghost use Rattle.esd_index.specs.Contents.{now_of};
 ghost use Rattle.esd_merge.specs.Looked.{IsSmall};
 ghost use Rattle.esd_merge.specs.Gathered.{base_of, area_in, no_area, extent_in, label_by, label_step, control_step, area_step, extent_step};
+ghost use Rattle.esd_merge.specs.Walked.{gathered_from};
 
 use crate::by_name::{Area, Extent, put, take_area};
 use crate::lookups::{home, rank, seen};
@@ -15,7 +17,7 @@ use esd_index::{Index, Key, Sighted};
 use le_bytes::Name;
 use std::alloc::{AllocError, Global};
 use std::collections::HashMap;
-use sym_mod::{ItemKind, Label};
+use sym_mod::{Item, ItemKind, Label};
 
 // ---- kinds
 
@@ -92,23 +94,6 @@ fn note_label(
     }
 }
 
-/// The first kept label of each name.
-pub(crate) fn labels_by_name(
-    alloc: Global,
-    index: &Index,
-    reads: &[Reading],
-    sights: &[Sighted],
-) -> Result<HashMap<Name, Label>, AllocError>
-    requires { IsSmall (now_of index.now) }
-    ensures { IfOk result (λ m. (y : Name) → get name_eq m y ≡ fold (label_step (now_of index.now) reads.now y) None (map sight sights.now)) }
-{
-    let mut labels = HashMap::new(alloc);
-    for x in sights {
-        note_label(&mut labels, index, reads, x)?;
-    }
-    Ok(labels)
-}
-
 // ---- sections
 
 fn note_control(controls: &mut HashMap<Name, Sighted>, x: &Sighted) -> Result<(), AllocError>
@@ -123,20 +108,6 @@ fn note_control(controls: &mut HashMap<Name, Sighted>, x: &Sighted) -> Result<()
     put(controls, x.item.name, *x)
 }
 
-/// The first SD item of each name.
-pub(crate) fn controls_by_name(
-    alloc: Global,
-    sights: &[Sighted],
-) -> Result<HashMap<Name, Sighted>, AllocError>
-    ensures { IfOk result (λ m. (y : Name) → option_map sight (get name_eq m y) ≡ fold (control_step y) None (map sight sights.now)) }
-{
-    let mut controls = HashMap::new(alloc);
-    for x in sights {
-        note_control(&mut controls, x)?;
-    }
-    Ok(controls)
-}
-
 fn note_area(alloc: Global, areas: &mut HashMap<Name, Area>, x: &Sighted) -> Result<(), AllocError>
     ensures { OnOk result ((y : Name) → area_in (get name_eq areas.new y) ≡ area_step y (area_in (get name_eq areas.old y)) (sight x.now)) }
 {
@@ -147,20 +118,6 @@ fn note_area(alloc: Global, areas: &mut HashMap<Name, Area>, x: &Sighted) -> Res
     area.users.push(x.segment)?;
     area.length = area.length.max(x.item.length);
     put(areas, x.item.name, area)
-}
-
-/// The CM items of each name, as one area.
-pub(crate) fn areas_by_name(
-    alloc: Global,
-    sights: &[Sighted],
-) -> Result<HashMap<Name, Area>, AllocError>
-    ensures { IfOk result (λ m. (y : Name) → area_in (get name_eq m y) ≡ fold (area_step y) no_area (map sight sights.now)) }
-{
-    let mut areas = HashMap::new(alloc);
-    for x in sights {
-        note_area(alloc, &mut areas, x)?;
-    }
-    Ok(areas)
 }
 
 // ---- registers
@@ -195,16 +152,100 @@ fn note_extent(extents: &mut HashMap<Name, Extent>, x: &Sighted) -> Result<(), A
     )
 }
 
-/// The greatest length and alignment of each register.
-pub(crate) fn extents_by_name(
-    alloc: Global,
-    sights: &[Sighted],
-) -> Result<HashMap<Name, Extent>, AllocError>
-    ensures { IfOk result (λ m. (y : Name) → extent_in (get name_eq m y) ≡ fold (extent_step y) (extent_in None) (map sight sights.now)) }
-{
-    let mut extents = HashMap::new(alloc);
-    for x in sights {
-        note_extent(&mut extents, x)?;
+// ---- all
+
+/// What the items bring, by name.
+#[derive(Drop)]
+pub(crate) struct Gathered {
+    /// The first SD item of each name.
+    pub(crate) controls: HashMap<Name, Sighted>,
+    /// The CM items of each name, as one area.
+    pub(crate) areas: HashMap<Name, Area>,
+    /// The first kept label of each name.
+    pub(crate) labels: HashMap<Name, Label>,
+    /// The greatest length and alignment of each register.
+    pub(crate) extents: HashMap<Name, Extent>,
+}
+
+impl Gathered {
+    ghost use Rattle.std.specs.Prelude.{◌≡◌, fold, option_map, OnOk};
+    ghost use Rattle.std.specs.HashMap.{get};
+    ghost use Rattle.le_bytes.specs.declared.name.Name.{Name};
+    ghost use Rattle.le_bytes.specs.Names.{name_eq};
+    ghost use Rattle.linking_model.specs.Kept.{sights_in};
+    ghost use Rattle.esd_index.specs.Keys.{sight};
+    ghost use Rattle.esd_index.specs.Contents.{now_of};
+    ghost use Rattle.esd_merge.specs.Looked.{IsSmall};
+    ghost use Rattle.esd_merge.specs.Gathered.{area_in, extent_in, label_step, control_step, area_step, extent_step};
+
+    fn note(
+        &mut self,
+        alloc: Global,
+        index: &Index,
+        reads: &[Reading],
+        x: &Sighted,
+    ) -> Result<(), AllocError>
+        requires { IsSmall (now_of index.now) }
+        ensures controls { OnOk result ((y : Name) → option_map sight (get name_eq self.new.controls y) ≡ control_step y (option_map sight (get name_eq self.old.controls y)) (sight x.now)) }
+        ensures areas { OnOk result ((y : Name) → area_in (get name_eq self.new.areas y) ≡ area_step y (area_in (get name_eq self.old.areas y)) (sight x.now)) }
+        ensures labels { OnOk result ((y : Name) → get name_eq self.new.labels y ≡ label_step (now_of index.now) reads.now y (get name_eq self.old.labels y) (sight x.now)) }
+        ensures extents { OnOk result ((y : Name) → extent_in (get name_eq self.new.extents y) ≡ extent_step y (extent_in (get name_eq self.old.extents y)) (sight x.now)) }
+    {
+        note_control(&mut self.controls, x)?;
+        note_area(alloc, &mut self.areas, x)?;
+        note_label(&mut self.labels, index, reads, x)?;
+        note_extent(&mut self.extents, x)
     }
-    Ok(extents)
+
+    fn note_items(
+        &mut self,
+        alloc: Global,
+        index: &Index,
+        reads: &[Reading],
+        of_module: usize,
+        segment: u8,
+        items: &[Item],
+    ) -> Result<(), AllocError>
+        requires { IsSmall (now_of index.now) }
+        ensures controls { OnOk result ((y : Name) → option_map sight (get name_eq self.new.controls y) ≡ fold (control_step y) (option_map sight (get name_eq self.old.controls y)) (sights_in of_module segment 0 items.now)) }
+        ensures areas { OnOk result ((y : Name) → area_in (get name_eq self.new.areas y) ≡ fold (area_step y) (area_in (get name_eq self.old.areas y)) (sights_in of_module segment 0 items.now)) }
+        ensures labels { OnOk result ((y : Name) → get name_eq self.new.labels y ≡ fold (label_step (now_of index.now) reads.now y) (get name_eq self.old.labels y) (sights_in of_module segment 0 items.now)) }
+        ensures extents { OnOk result ((y : Name) → extent_in (get name_eq self.new.extents y) ≡ fold (extent_step y) (extent_in (get name_eq self.old.extents y)) (sights_in of_module segment 0 items.now)) }
+    {
+        for (number, item) in items.iter().enumerate() {
+            let x = Sighted {
+                of_module,
+                number,
+                segment,
+                item: *item,
+            };
+            self.note(alloc, index, reads, &x)?;
+        }
+        Ok(())
+    }
+}
+
+/// What the items of all modules bring, each looked at once.
+pub(crate) fn gather(
+    alloc: Global,
+    index: &Index,
+    reads: &[Reading],
+) -> Result<Gathered, AllocError>
+    requires { IsSmall (now_of index.now) }
+    ensures controls { IfOk result (λ g. (y : Name) → option_map sight (get name_eq g.controls y) ≡ gathered_from (control_step y) None 0 reads.now) }
+    ensures areas { IfOk result (λ g. (y : Name) → area_in (get name_eq g.areas y) ≡ gathered_from (area_step y) no_area 0 reads.now) }
+    ensures labels { IfOk result (λ g. (y : Name) → get name_eq g.labels y ≡ gathered_from (label_step (now_of index.now) reads.now y) None 0 reads.now) }
+    ensures extents { IfOk result (λ g. (y : Name) → extent_in (get name_eq g.extents y) ≡ gathered_from (extent_step y) (extent_in None) 0 reads.now) }
+{
+    let mut gathered = Gathered {
+        controls: HashMap::with_capacity(alloc, index.controls.len())?,
+        areas: HashMap::new(alloc),
+        labels: HashMap::new(alloc),
+        extents: HashMap::new(alloc),
+    };
+    for (number, reading) in reads.iter().enumerate() {
+        let items = reading.read.items.as_slice();
+        gathered.note_items(alloc, index, reads, number, reading.segment, items)?;
+    }
+    Ok(gathered)
 }

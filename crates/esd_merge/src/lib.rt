@@ -14,6 +14,7 @@ mod merged;
 mod numbering;
 mod program;
 mod reading;
+mod tabled;
 mod unres;
 
 pub use defined::Defined;

@@ -153,7 +153,7 @@ pub(crate) fn sections(
     requires { IsSmall (now_of index.now) }
     ensures { IfOk result (λ list. list ≡ fold (λ xs y. pushed xs (section_by (now_of index.now) reads.now (λ y. option_map sight (get name_eq controls.now y)) (λ y. area_in (get name_eq areas.now y)) y)) [] (now_of index.now).sections) }
 {
-    let mut list = Items::new(alloc);
+    let mut list = Items::from_vec(Vec::with_capacity(alloc, index.sections.len())?);
     for key in index.sections.keys() {
         let section = section(alloc, index, reads, controls, areas, key)?;
         push_some(&mut list, section)?;
@@ -252,14 +252,13 @@ pub(crate) fn unknown(index: &Index, key: &Key) -> Option<Unknown>
 {
     match key {
         Key::Named(name) => {
-            if is_referenced(index, *name) && !is_defined(index, *name) {
-                Some(Unknown {
-                    name: *name,
-                    weak: is_weak(index, *name),
-                })
-            } else {
-                None
+            if is_defined(index, *name) || !is_referenced(index, *name) {
+                return None;
             }
+            Some(Unknown {
+                name: *name,
+                weak: is_weak(index, *name),
+            })
         }
         Key::Private(..) => None,
     }

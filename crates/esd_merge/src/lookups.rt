@@ -1,50 +1,14 @@
 //! Where items of the modules that were read are kept.
-ghost use Rattle.std.specs.Prelude.{◌≡◌, ◌++◌, slice_get, option_map, option_and_then, IfOk, OnOk, map};
-ghost use Rattle.linking_model.specs.Kept.{sights, sights_in, section_symbol};
+ghost use Rattle.std.specs.Prelude.{◌≡◌, slice_get, option_map, option_and_then};
+ghost use Rattle.linking_model.specs.Kept.{section_symbol};
 ghost use Rattle.esd_index.specs.Keys.{as_symbol, sight};
 ghost use Rattle.esd_index.specs.Contents.{now_of};
-ghost use Rattle.esd_merge.specs.Held.{as_read, is_marked_in};
+ghost use Rattle.esd_merge.specs.Held.{is_marked_in};
 ghost use Rattle.esd_merge.specs.Looked.{IsSmall, rank_by, number_by, seen_by, home_by};
 
 use crate::reading::Reading;
 use esd_index::{Index, Key, Sighted, flag_at};
-use std::alloc::{AllocError, Global};
 use sym_mod::Item;
-
-fn add_sights(
-    list: &mut Vec<Sighted>,
-    of_module: usize,
-    segment: u8,
-    items: &[Item],
-) -> Result<(), AllocError>
-    ensures { OnOk result (map sight list.new.items ≡ map sight list.old.items ++ sights_in of_module segment 0 items.now) }
-{
-    for (number, item) in items.iter().enumerate() {
-        list.push(Sighted {
-            of_module,
-            number,
-            segment,
-            item: *item,
-        })?;
-    }
-    Ok(())
-}
-
-/// All items of the modules, in reading order.
-pub(crate) fn all_sights(alloc: Global, reads: &[Reading]) -> Result<Vec<Sighted>, AllocError>
-    ensures { IfOk result (λ list. map sight list.items ≡ sights (map as_read reads.now)) }
-{
-    let mut list = Vec::new(alloc);
-    for (number, reading) in reads.iter().enumerate() {
-        add_sights(
-            &mut list,
-            number,
-            reading.segment,
-            reading.read.items.as_slice(),
-        )?;
-    }
-    Ok(list)
-}
 
 /// The place of a symbol in the order of first appearance, 0 where it has none.
 pub(crate) fn rank(index: &Index, key: &Key) -> u32

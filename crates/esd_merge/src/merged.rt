@@ -9,8 +9,8 @@ ghost use Rattle.esd_merge.specs.Left.{target_of, name_pairs};
 use crate::defined::Defined;
 use crate::entering::enter;
 use crate::fault::MergeFault;
-use crate::lookups::{all_sights, section_number};
-use crate::program::{all_texts, program_lists};
+use crate::lookups::section_number;
+use crate::program::{bring, program_lists};
 use crate::reading::Reading;
 use crate::unres::{Unres, label_number};
 use esd_index::{Index, Key};
@@ -117,9 +117,8 @@ impl Merged {
         ensures sound { IfOk result IsSoundProgram }
     {
         let Merged { reads, index } = self;
-        let items = all_sights(alloc, reads.as_slice())?;
-        let lists = program_lists(alloc, &index, reads.as_slice(), items.as_slice())?;
-        let texts = all_texts(alloc, &index, reads)?;
-        Ok(lists.with(texts))
+        let lists = program_lists(alloc, &index, reads.as_slice())?;
+        let brought = bring(alloc, &index, &lists.meanings, reads)?;
+        Ok(lists.with(brought))
     }
 }

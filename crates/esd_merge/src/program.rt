@@ -1,25 +1,27 @@
 //! The program of the modules that were read.
-ghost use Rattle.std.specs.Prelude.{◌≡◌, ◌<◌, ◌≤◌, ◌^◌, ℕ, [], map, length, IfOk, OnOk};
+ghost use Rattle.std.specs.Prelude.{◌≡◌, ◌<◌, ◌≤◌, ◌^◌, ℕ, [], None, map, option_map, length, IfOk, OnOk};
 ghost use Rattle.std.specs.HashMap.{get};
 ghost use Rattle.std.specs.List.{position_from};
 ghost use Rattle.le_bytes.specs.declared.name.Name.{Name};
 ghost use Rattle.le_bytes.specs.Names.{name_eq};
-ghost use Rattle.linking_model.specs.Kept.{sights};
-ghost use Rattle.linking_model.specs.Merged.{sections, labels, unresolved, registers, constants, texts, starts};
+ghost use Rattle.linking_model.specs.Merged.{sections, labels, unresolved, registers};
 ghost use Rattle.esd_index.specs.Keys.{sight};
 ghost use Rattle.esd_index.specs.Contents.{now_of};
 ghost use Rattle.esd_merge.specs.Held.{as_read};
 ghost use Rattle.esd_merge.specs.Looked.{IsSmall};
-ghost use Rattle.esd_merge.specs.Listed.{start_by};
+ghost use Rattle.esd_merge.specs.Gathered.{no_area, area_in, extent_in, label_step, control_step, area_step, extent_step};
+ghost use Rattle.esd_merge.specs.Walked.{gathered_from};
+ghost use Rattle.esd_merge.specs.Listed.{pushed, start_by};
 ghost use Rattle.esd_merge.specs.Numbered.{is_named_so};
-ghost use Rattle.esd_merge.specs.Whole.{Holds, module_constants, constants_from, starts_from, module_texts, texts_from};
+ghost use Rattle.esd_merge.specs.Whole.{Holds, Means, module_constants, constants_from, starts_from, module_texts, texts_from};
 
-use crate::bringing::{Meanings, Standing, add_constants, add_texts, start};
-use crate::gathering::{areas_by_name, controls_by_name, extents_by_name, labels_by_name};
+use crate::bringing::{Meanings, Standing};
+use crate::gathering::{Gathered, gather};
 use crate::listing::{push_some, unknowns};
 use crate::numbering::{label_numbers, unknown_numbers};
 use crate::reading::Reading;
-use esd_index::{Index, Sighted};
+use crate::tabled::ItemTable;
+use esd_index::Index;
 use le_bytes::Items;
 use std::alloc::{AllocError, Global};
 use sym_mod::{Constant, Label, Program, Register, Section, StartAt, SymModule, Text, Unknown};
@@ -28,43 +30,40 @@ pub(crate) fn program_sections(
     alloc: Global,
     index: &Index,
     reads: &[Reading],
-    items: &[Sighted],
+    gathered: &Gathered,
 ) -> Result<Items<Section>, AllocError>
     requires holds { Holds (now_of index.now) reads.now }
-    requires seen { map sight items.now ≡ sights (map as_read reads.now) }
+    requires controls { (y : Name) → option_map sight (get name_eq gathered.now.controls y) ≡ gathered_from (control_step y) None 0 reads.now }
+    requires areas { (y : Name) → area_in (get name_eq gathered.now.areas y) ≡ gathered_from (area_step y) no_area 0 reads.now }
     ensures { IfOk result (λ list. list ≡ sections (map as_read reads.now)) }
 {
-    let controls = controls_by_name(alloc, items)?;
-    let areas = areas_by_name(alloc, items)?;
-    crate::listing::sections(alloc, index, reads, &controls, &areas)
+    crate::listing::sections(alloc, index, reads, &gathered.controls, &gathered.areas)
 }
 
 pub(crate) fn program_labels(
     alloc: Global,
     index: &Index,
     reads: &[Reading],
-    items: &[Sighted],
+    gathered: &Gathered,
 ) -> Result<Items<Label>, AllocError>
     requires holds { Holds (now_of index.now) reads.now }
-    requires seen { map sight items.now ≡ sights (map as_read reads.now) }
+    requires labels { (y : Name) → get name_eq gathered.now.labels y ≡ gathered_from (label_step (now_of index.now) reads.now y) None 0 reads.now }
     ensures { IfOk result (λ list. list ≡ labels (map as_read reads.now)) }
 {
-    let by_name = labels_by_name(alloc, index, reads, items)?;
-    crate::listing::labels(alloc, index, &by_name)
+    crate::listing::labels(alloc, index, &gathered.labels)
 }
 
 pub(crate) fn program_registers(
     alloc: Global,
     index: &Index,
     reads: &[Reading],
-    items: &[Sighted],
+    gathered: &Gathered,
 ) -> Result<Items<Register>, AllocError>
     requires holds { Holds (now_of index.now) reads.now }
-    requires seen { map sight items.now ≡ sights (map as_read reads.now) }
+    requires extents { (y : Name) → extent_in (get name_eq gathered.now.extents y) ≡ gathered_from (extent_step y) (extent_in None) 0 reads.now }
     ensures { IfOk result (λ list. list ≡ registers (map as_read reads.now)) }
 {
-    let extents = extents_by_name(alloc, items)?;
-    crate::listing::registers(alloc, index, &extents)
+    crate::listing::registers(alloc, index, &gathered.extents)
 }
 
 pub(crate) fn program_unknowns(
@@ -94,91 +93,29 @@ pub(crate) fn meanings(
     Ok(Meanings { labels, unknowns })
 }
 
-fn standing(number: usize, reading: &Reading) -> Standing<'_>
-    ensures number { result.number ≡ number }
-    ensures segment { result.segment ≡ reading.now.segment }
-    ensures items { result.items.now ≡ reading.now.read.items }
-    ensures kept { result.kept.now ≡ reading.now.kept.items }
-{
-    Standing {
-        number,
-        segment: reading.segment,
-        items: reading.read.items.as_slice(),
-        kept: reading.kept.as_slice(),
-    }
+/// What the modules bring one after the other.
+#[derive(Drop)]
+pub(crate) struct Brought {
+    constants: Items<Constant>,
+    texts: Items<Text>,
+    starts: Items<StartAt>,
 }
 
-#[tactic(auto, unfolding(crate::specs::Whole::module_constants))]
-fn add_module_constants(
+/// Adds what a module brings. Its constants are let go.
+#[tactic(auto, using(crate::proofs::ItemTables::start_is))]
+fn bring_module(
     alloc: Global,
-    list: &mut Items<Constant>,
+    brought: &mut Brought,
+    table: &mut ItemTable,
     index: &Index,
     meanings: &Meanings,
-    number: usize,
-    reading: &Reading,
-) -> Result<(), AllocError>
-    requires { IsSmall (now_of index.now) }
-    ensures { OnOk result (list.new ≡ module_constants (now_of index.now) (get name_eq meanings.now.labels) (get name_eq meanings.now.unknowns) list.old number reading.now) }
-{
-    let at = standing(number, reading);
-    add_constants(
-        alloc,
-        list,
-        index,
-        meanings,
-        &at,
-        reading.read.constants.as_slice(),
-    )
-}
-
-pub(crate) fn all_constants(
-    alloc: Global,
-    index: &Index,
-    meanings: &Meanings,
-    reads: &[Reading],
-) -> Result<Items<Constant>, AllocError>
-    requires { IsSmall (now_of index.now) }
-    ensures { IfOk result (λ list. list ≡ constants_from (now_of index.now) (get name_eq meanings.now.labels) (get name_eq meanings.now.unknowns) [] 0 reads.now) }
-{
-    let mut list = Items::new(alloc);
-    for (number, reading) in reads.iter().enumerate() {
-        add_module_constants(alloc, &mut list, index, meanings, number, reading)?;
-    }
-    Ok(list)
-}
-
-fn module_start(index: &Index, number: usize, reading: &Reading) -> Option<StartAt>
-    requires { IsSmall (now_of index.now) }
-    ensures { result ≡ start_by (now_of index.now) number reading.now.segment reading.now.read.items reading.now.kept.items reading.now.read.entry }
-{
-    let at = standing(number, reading);
-    start(index, &at, reading.read.entry)
-}
-
-pub(crate) fn all_starts(
-    alloc: Global,
-    index: &Index,
-    reads: &[Reading],
-) -> Result<Items<StartAt>, AllocError>
-    requires { IsSmall (now_of index.now) }
-    ensures { IfOk result (λ list. list ≡ starts_from (now_of index.now) [] 0 reads.now) }
-{
-    let mut list = Items::new(alloc);
-    for (number, reading) in reads.iter().enumerate() {
-        push_some(&mut list, module_start(index, number, reading))?;
-    }
-    Ok(list)
-}
-
-#[tactic(auto, unfolding(crate::specs::Whole::module_texts))]
-fn add_module_texts(
-    list: &mut Items<Text>,
-    index: &Index,
     number: usize,
     reading: Reading,
 ) -> Result<(), AllocError>
     requires { IsSmall (now_of index.now) }
-    ensures { OnOk result (list.new ≡ module_texts (now_of index.now) list.old number reading) }
+    ensures constants { OnOk result (brought.new.constants ≡ module_constants (now_of index.now) (get name_eq meanings.now.labels) (get name_eq meanings.now.unknowns) brought.old.constants number reading) }
+    ensures texts { OnOk result (brought.new.texts ≡ module_texts (now_of index.now) brought.old.texts number reading) }
+    ensures starts { OnOk result (brought.new.starts ≡ pushed brought.old.starts (start_by (now_of index.now) number reading.segment reading.read.items reading.kept.items reading.read.entry)) }
 {
     let Reading {
         read,
@@ -188,8 +125,8 @@ fn add_module_texts(
     let SymModule {
         items,
         fragments,
-        constants: _,
-        entry: _,
+        constants,
+        entry,
     } = read;
     let at = Standing {
         number,
@@ -197,52 +134,82 @@ fn add_module_texts(
         items: items.as_slice(),
         kept: kept.as_slice(),
     };
-    add_texts(list, index, &at, fragments.into_vec())
+    table.fill(index, meanings, &at)?;
+    table.add_constants(
+        alloc,
+        &mut brought.constants,
+        index,
+        meanings,
+        constants.as_slice(),
+    )?;
+    push_some(&mut brought.starts, table.start(entry))?;
+    table.add_texts(&mut brought.texts, fragments.into_vec())
 }
 
-pub(crate) fn all_texts(
+/// What the modules bring. Each is let go as soon as it is done with, so that its memory serves the
+/// next.
+pub(crate) fn bring(
     alloc: Global,
     index: &Index,
+    meanings: &Meanings,
     reads: Vec<Reading>,
-) -> Result<Items<Text>, AllocError>
+) -> Result<Brought, AllocError>
     requires { IsSmall (now_of index.now) }
-    ensures { IfOk result (λ list. list ≡ texts_from (now_of index.now) [] 0 reads.items) }
+    ensures constants { IfOk result (λ x. x.constants ≡ constants_from (now_of index.now) (get name_eq meanings.now.labels) (get name_eq meanings.now.unknowns) [] 0 reads.items) }
+    ensures texts { IfOk result (λ x. x.texts ≡ texts_from (now_of index.now) [] 0 reads.items) }
+    ensures starts { IfOk result (λ x. x.starts ≡ starts_from (now_of index.now) [] 0 reads.items) }
 {
-    let mut list = Items::new(alloc);
+    let mut brought = Brought {
+        constants: Items::new(alloc),
+        texts: Items::from_vec(Vec::with_capacity(alloc, reads.len())?),
+        starts: Items::new(alloc),
+    };
+    let mut table = ItemTable::new(alloc);
     let mut number: usize = 0;
     for reading in reads {
-        add_module_texts(&mut list, index, number, reading)?;
+        bring_module(
+            alloc,
+            &mut brought,
+            &mut table,
+            index,
+            meanings,
+            number,
+            reading,
+        )?;
         number += 1;
     }
-    Ok(list)
+    Ok(brought)
 }
 
-/// The lists of a program but its texts.
+/// The lists of a program that are made from names, and what the names mean.
 #[derive(Drop)]
 pub(crate) struct Lists {
     sections: Items<Section>,
     labels: Items<Label>,
     unresolved: Items<Unknown>,
     registers: Items<Register>,
-    constants: Items<Constant>,
-    starts: Items<StartAt>,
+    pub(crate) meanings: Meanings,
 }
 
 impl Lists {
     ghost use Rattle.std.specs.Prelude.{◌≡◌};
 
-    /// The program with these texts.
-    pub(crate) fn with(self, texts: Items<Text>) -> Program
-        ensures { result ≡ record { sections = self.sections; labels = self.labels; unresolved = self.unresolved; registers = self.registers; texts = texts; constants = self.constants; starts = self.starts } }
+    /// The program with what the modules bring.
+    pub(crate) fn with(self, brought: Brought) -> Program
+        ensures { result ≡ record { sections = self.sections; labels = self.labels; unresolved = self.unresolved; registers = self.registers; texts = brought.texts; constants = brought.constants; starts = brought.starts } }
     {
         let Lists {
             sections,
             labels,
             unresolved,
             registers,
-            constants,
-            starts,
+            meanings: _,
         } = self;
+        let Brought {
+            constants,
+            texts,
+            starts,
+        } = brought;
         Program {
             sections,
             labels,
@@ -259,30 +226,25 @@ pub(crate) fn program_lists(
     alloc: Global,
     index: &Index,
     reads: &[Reading],
-    items: &[Sighted],
 ) -> Result<Lists, AllocError>
     requires holds { Holds (now_of index.now) reads.now }
-    requires seen { map sight items.now ≡ sights (map as_read reads.now) }
     ensures sections { IfOk result (λ x. x.sections ≡ sections (map as_read reads.now)) }
     ensures labels { IfOk result (λ x. x.labels ≡ labels (map as_read reads.now)) }
     ensures unresolved { IfOk result (λ x. x.unresolved ≡ unresolved (map as_read reads.now)) }
     ensures registers { IfOk result (λ x. x.registers ≡ registers (map as_read reads.now)) }
-    ensures constants { IfOk result (λ x. x.constants ≡ constants (map as_read reads.now)) }
-    ensures starts { IfOk result (λ x. x.starts ≡ starts (map as_read reads.now)) }
+    ensures meanings { IfOk result (λ x. Means (map as_read reads.now) (get name_eq x.meanings.labels) (get name_eq x.meanings.unknowns)) }
 {
-    let sections = program_sections(alloc, index, reads, items)?;
-    let labels = program_labels(alloc, index, reads, items)?;
+    let gathered = gather(alloc, index, reads)?;
+    let sections = program_sections(alloc, index, reads, &gathered)?;
+    let labels = program_labels(alloc, index, reads, &gathered)?;
     let unresolved = program_unknowns(alloc, index, reads)?;
-    let registers = program_registers(alloc, index, reads, items)?;
+    let registers = program_registers(alloc, index, reads, &gathered)?;
     let meanings = meanings(alloc, labels.as_slice(), unresolved.as_slice())?;
-    let constants = all_constants(alloc, index, &meanings, reads)?;
-    let starts = all_starts(alloc, index, reads)?;
     Ok(Lists {
         sections,
         labels,
         unresolved,
         registers,
-        constants,
-        starts,
+        meanings,
     })
 }

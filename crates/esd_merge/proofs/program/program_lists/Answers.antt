@@ -1,15 +1,12 @@
 use Rattle.std.proofs.Common.{◌≤◌, ◌∙◌, ap, sym, List, map, subst, length}
-use Rattle.std.specs.HashMap.{get}
 use Rattle.std.specs.List.{position_from}
-use Rattle.le_bytes.specs.Names.{name_eq}
 use Rattle.sym_mod.specs.declared.program.Label.{Label}
 use Rattle.sym_mod.specs.declared.program.Unknown.{Unknown}
-use Rattle.esd_index.specs.Contents.{now_of}
 use Rattle.linking_model.specs.Merged.{labels, unresolved}
 use Rattle.esd_merge.specs.Held.{as_read}
 use Rattle.esd_merge.specs.Numbered.{is_named_so}
 use Rattle.esd_merge.proofs.Small.{labels_few, unresolved_few}
-use Rattle.esd_merge.proofs.Brought.{Means, numbered, constants_are, starts_are}
+use Rattle.esd_merge.proofs.Brought.{numbered}
 use Rattle.esd_merge.proofs.program.program_lists.Goals as goal
 
 pub meanings-requires-clause-labels : goal.meanings-requires-clause-labels
@@ -20,13 +17,8 @@ pub meanings-requires-clause-unknowns : goal.meanings-requires-clause-unknowns
 meanings-requires-clause-unknowns c =
     subst (λ (us : List Unknown). length us ≤ 32511) (sym (c.as_slice-2.ensures ∙ c.in_ok-unresolved.ensures)) (unresolved_few (map as_read c.args.reads.now) c.requires.holds.merged)
 
-pub returns-clause-constants : goal.returns-clause-constants
-returns-clause-constants c =
-    let means : Means (map as_read c.args.reads.now) (get name_eq c.in_ok-meanings.meanings.labels) (get name_eq c.in_ok-meanings.meanings.unknowns) = record {
-      of_labels = λ y. c.in_ok-meanings.ensures.labels y ∙ ap (λ (ls : List Label). position_from (is_named_so y) 0 (map (λ (x : Label). x.name) ls)) (c.as_slice.ensures ∙ c.in_ok-labels.ensures) ∙ numbered (λ (x : Label). x.name) y (labels (map as_read c.args.reads.now));
-      of_unknowns = λ y. c.in_ok-meanings.ensures.unknowns y ∙ ap (λ (us : List Unknown). position_from (is_named_so y) 0 (map (λ (x : Unknown). x.name) us)) (c.as_slice-2.ensures ∙ c.in_ok-unresolved.ensures) ∙ numbered (λ (x : Unknown). x.name) y (unresolved (map as_read c.args.reads.now));
-    } in
-    c.in_ok-constants.ensures ∙ constants_are (now_of c.args.index.now) c.args.reads.now (get name_eq c.in_ok-meanings.meanings.labels) (get name_eq c.in_ok-meanings.meanings.unknowns) c.requires.holds means
-
-pub returns-clause-starts : goal.returns-clause-starts
-returns-clause-starts c = c.in_ok-starts.ensures ∙ starts_are (now_of c.args.index.now) c.args.reads.now c.requires.holds
+pub returns-clause-meanings : goal.returns-clause-meanings
+returns-clause-meanings c = record {
+  of_labels = λ y. c.in_ok-meanings.ensures.labels y ∙ ap (λ (ls : List Label). position_from (is_named_so y) 0 (map (λ (x : Label). x.name) ls)) (c.as_slice.ensures ∙ c.in_ok-labels.ensures) ∙ numbered (λ (x : Label). x.name) y (labels (map as_read c.args.reads.now));
+  of_unknowns = λ y. c.in_ok-meanings.ensures.unknowns y ∙ ap (λ (us : List Unknown). position_from (is_named_so y) 0 (map (λ (x : Unknown). x.name) us)) (c.as_slice-2.ensures ∙ c.in_ok-unresolved.ensures) ∙ numbered (λ (x : Unknown). x.name) y (unresolved (map as_read c.args.reads.now));
+}
