@@ -4,3 +4,4 @@ pub mod Maps
 pub mod Reach
 pub mod Seen
 pub mod Sizes
+pub mod Starts

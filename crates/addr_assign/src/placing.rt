@@ -41,7 +41,7 @@ pub(crate) fn addresses(
 {
     let count = t.count();
     let mut next = starts(alloc, t, count, origins)?;
-    let mut places = Vec::new(alloc);
+    let mut places = Vec::with_capacity(alloc, sections.len())?;
     for x in sections {
         places.push(take_room(&mut next, x))?;
     }
@@ -73,7 +73,7 @@ fn starts(alloc: Global, t: &SegTree, count: u8, origins: &[u64]) -> Result<Vec<
     requires bounded { All (λ n. n ≤ 4503599627370496) origins.now }
     ensures { IfOk result (λ starts. starts.items ≡ map (next_place t.now.tree origins.now []) (range_with_len 1 (length t.now.tree))) }
 {
-    let mut starts = Vec::new(alloc);
+    let mut starts = Vec::with_capacity(alloc, count as usize)?;
     for i in 0..count {
         starts.push(origins[i as usize] + round8(head_length(count, i + 1)))?;
     }
@@ -90,7 +90,7 @@ pub(crate) fn ends(alloc: Global, origins: &[u64], sizes: &[u64]) -> Result<Vec<
     requires sizes { All (λ n. n ≤ 2199023255552) sizes.now }
     ensures { IfOk result (λ ends. ends.items ≡ map (λ s. sizes_of origins.now s + sizes_of sizes.now s) (range_with_len 1 (length origins.now))) }
 {
-    let mut ends = Vec::new(alloc);
+    let mut ends = Vec::with_capacity(alloc, origins.len())?;
     for i in 0..origins.len() {
         ends.push(origins[i] + sizes[i])?;
     }
@@ -116,9 +116,9 @@ pub(crate) fn narrowed(alloc: Global, numbers: &[u64]) -> Result<Items<u32>, Mem
     requires { All (λ n. n ≤ 4194311) numbers.now }
     ensures { IfOk result (λ narrow. narrow ≡ numbers.now) }
 {
-    let mut narrow = Items::new(alloc);
+    let mut narrow = Vec::with_capacity(alloc, numbers.len())?;
     for n in numbers {
         narrow.push(*n as u32)?;
     }
-    Ok(narrow)
+    Ok(Items::from_vec(narrow))
 }

@@ -1,6 +1,7 @@
 //! Where a program is entered.
-ghost use Rattle.std.specs.Prelude.{◌≡◌, ◌==◌, ◌≤◌, ◌<◌, length, position, find, option_map, option_and_then, slice_get, filter_map, unwrap_or, if◌then◌else◌, Some, None, IfOk};
+ghost use Rattle.std.specs.Prelude.{◌≡◌, false, ◌==◌, ◌≤◌, ◌<◌, length, position, find, option_map, option_and_then, slice_get, filter_map, unwrap_or, if◌then◌else◌, Some, None, IfOk};
 ghost use Rattle.std.specs.Option.{option_or, option_map_or, option_copied};
+ghost use Rattle.std.specs.List.{list_any};
 ghost use Rattle.le_bytes.specs.Names.{name_eq};
 ghost use Rattle.sym_mod.specs.Sound.{IsSoundProgram};
 ghost use Rattle.linking_model.specs.Settled.{is_section_named};
@@ -8,6 +9,7 @@ ghost use Rattle.linking_model.specs.Places.{segment_of_section};
 ghost use Rattle.linking_model.specs.Points.{in_root, section_point, label_point, point_of, start_point, first_of_root, default_point, entry_point, alias_point};
 ghost use Rattle.addr_assign.specs.Seen.{seen};
 ghost use Rattle.addr_assign.specs.Maps.{HoldsSections, HoldsLabels};
+ghost use Rattle.addr_assign.specs.Starts.{is_by_name};
 
 use crate::settling::section_numbers;
 use le_bytes::{Memory, Name};
@@ -43,11 +45,58 @@ fn default_point(alloc: Global, p: &Program) -> Result<Point, Memory>
     requires { IsSoundProgram p.now }
     ensures { IfOk result (λ point. seen point ≡ default_point p.now) }
 {
-    let named = section_numbers(alloc, p.sections.as_slice())?;
-    let labels = first_labels(alloc, p.labels.as_slice())?;
-    match first_start(p, &named, &labels) {
+    match first_start(alloc, p)? {
         Some(point) => Ok(point),
         None => Ok(first_of_root(p)),
+    }
+}
+
+/// The first entry that a module gives and that is in the root. Maps of names are made only where some
+/// entry is given by its name.
+fn first_start(alloc: Global, p: &Program) -> Result<Option<Point>, Memory>
+    requires { IsSoundProgram p.now }
+    ensures { IfOk result (λ point. option_map seen point ≡ slice_get (filter_map (start_point p.now) p.now.starts) 0) }
+{
+    if !is_any_by_name(p.starts.as_slice()) {
+        return Ok(first_place(p));
+    }
+    let named = section_numbers(alloc, p.sections.as_slice())?;
+    let labels = first_labels(alloc, p.labels.as_slice())?;
+    Ok(first_found(p, &named, &labels))
+}
+
+fn is_any_by_name(starts: &[StartAt]) -> bool
+    ensures { result ≡ list_any is_by_name starts.now }
+{
+    starts.iter().any(|start| is_by_name(start))
+}
+
+fn is_by_name(start: &StartAt) -> bool
+    ensures { result ≡ is_by_name start.now }
+{
+    matches!(start, StartAt::Named(_))
+}
+
+/// The first entry in the root, where none is given by its name.
+fn first_place(p: &Program) -> Option<Point>
+    requires { list_any is_by_name p.now.starts ≡ false }
+    ensures { option_map seen result ≡ slice_get (filter_map (start_point p.now) p.now.starts) 0 }
+{
+    for start in p.starts.as_slice() {
+        if let Some(point) = place_in_root(p, *start) {
+            return Some(point);
+        }
+    }
+    None
+}
+
+/// The place of an entry that is in the root and not given by its name.
+fn place_in_root(p: &Program, start: StartAt) -> Option<Point>
+    ensures { is_by_name start ≡ false → option_map seen result ≡ start_point p.now start }
+{
+    match start {
+        StartAt::At(section, offset) => in_root(p, Point { section, offset }),
+        StartAt::Named(_) => None,
     }
 }
 
@@ -55,7 +104,7 @@ fn default_point(alloc: Global, p: &Program) -> Result<Point, Memory>
 fn first_labels(alloc: Global, labels: &[Label]) -> Result<HashMap<Name, Label>, AllocError>
     ensures { IfOk result (λ m. HoldsLabels m labels.now) }
 {
-    let mut firsts = HashMap::new(alloc);
+    let mut firsts = HashMap::with_capacity(alloc, labels.len())?;
     for done in 0..labels.len() {
         let x = labels[labels.len() - 1 - done];
         let _ = firsts.insert(x.name, x)?;
@@ -63,7 +112,8 @@ fn first_labels(alloc: Global, labels: &[Label]) -> Result<HashMap<Name, Label>,
     Ok(firsts)
 }
 
-fn first_start(
+/// The first entry in the root, by the maps.
+fn first_found(
     p: &Program,
     named: &HashMap<Name, usize>,
     labels: &HashMap<Name, Label>,

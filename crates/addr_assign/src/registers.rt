@@ -30,7 +30,7 @@ pub(crate) fn register_places(alloc: Global, registers: &[Register]) -> Result<V
     requires fits { registers_end 0 registers.now ≤ 16777215 }
     ensures { IfOk result (λ places. places.items ≡ displacements 0 registers.now) }
 {
-    let mut places = Vec::new(alloc);
+    let mut places = Vec::with_capacity(alloc, registers.len())?;
     let mut at = 0;
     for x in registers {
         let place = next_multiple(at, x.align);

@@ -44,11 +44,10 @@ pub fn settle(
     ensures answer { SettleAnswer t.now.tree inserts.now p.old result p.new }
     ensures sound { IsSoundProgram p.old → IsSoundProgram p.new }
 {
-    let Ok(named) = section_numbers(alloc, p.sections.as_slice()) else {
-        return Err(SettleFault::Memory);
-    };
-    if let Some(name) = unknown_insert(p, &named, inserts) {
-        return Err(SettleFault::InsertUnknown(name));
+    match first_unknown(alloc, p, inserts) {
+        Ok(None) => {}
+        Ok(Some(name)) => return Err(SettleFault::InsertUnknown(name)),
+        Err(_) => return Err(SettleFault::Memory),
     }
     let Ok(moves) = first_inserts(alloc, inserts) else {
         return Err(SettleFault::Memory);
@@ -60,6 +59,22 @@ pub fn settle(
     Ok(())
 }
 
+/// The first name in an INSERT that no named section has. A program without INSERTs has all its sections
+/// at hand, and no map of them is made.
+fn first_unknown(
+    alloc: Global,
+    p: &Program,
+    inserts: &[(Name, u8)],
+) -> Result<Option<Name>, AllocError>
+    ensures { IfOk result (λ name. name ≡ unknown_insert p.now inserts.now) }
+{
+    if inserts.is_empty() {
+        return Ok(None);
+    }
+    let named = section_numbers(alloc, p.sections.as_slice())?;
+    Ok(unknown_insert(p, &named, inserts))
+}
+
 /// The first section of each name.
 pub(crate) fn section_numbers(
     alloc: Global,
@@ -67,7 +82,7 @@ pub(crate) fn section_numbers(
 ) -> Result<HashMap<Name, usize>, AllocError>
     ensures { IfOk result (λ m. HoldsSections m sections.now) }
 {
-    let mut named = HashMap::new(alloc);
+    let mut named = HashMap::with_capacity(alloc, sections.len())?;
     for done in 0..sections.len() {
         let at = sections.len() - 1 - done;
         put_section(&mut named, &sections[at], at)?;
@@ -204,6 +219,10 @@ fn inserted_or(inserts: &[(Name, u8)], moves: &HashMap<Name, u8>, name: &Name, o
     requires { HoldsInserts moves.now inserts.now }
     ensures { result ≡ inserted_or inserts.now name.now other }
 {
+    // Where there are no INSERTs no name has to be hashed.
+    if inserts.is_empty() {
+        return other;
+    }
     match moves.get(name) {
         Some(segment) => *segment,
         None => other,

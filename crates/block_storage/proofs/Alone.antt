@@ -1,25 +1,20 @@
 -- A program whose sections all stand in the root.
-use Rattle.std.proofs.Common.{arith, ◌≡◌, ℕ, zero, suc, ◌+◌, ◌<◌, ◌≤◌, true, List, [], ◌∷◌, length, map, get_or, slice_index, All, IsTrue, refl, sym, ◌∙◌, ap, subst, Some, slice_get}
+use Rattle.std.proofs.Common.{arith, ◌≡◌, ℕ, zero, suc, ◌+◌, ◌<◌, ◌≤◌, true, List, [], ◌∷◌, length, map, get_or, slice_index, All, IsTrue, refl, ◌∙◌, ap, subst, Some, slice_get}
 use Rattle.std.specs.Prelude.{⊤}
 use Rattle.std.specs.List.{range_with_len}
 use Rattle.std.specs.Option.{option_map_or}
 use Rattle.std.proofs.lemmas.List.Sums.{AllPass-from_list_all}
-use Rattle.std.proofs.lemmas.List.FromFn.{get_or-map-range_with_len, length-map-range_with_len}
+use Rattle.std.proofs.lemmas.List.FromFn.{get_or-map-range_with_len}
 use Rattle.sym_mod.specs.declared.program.Program.{Program}
 use Rattle.sym_mod.specs.declared.program.Section.{Section}
 use Rattle.linking_model.specs.Tree.{Tree, root, segments}
-use Rattle.linking_model.specs.Places.{Laid, place, end_of, module_length, segment_of_section, length_of_section}
+use Rattle.linking_model.specs.Places.{place, end_of, module_length, segment_of_section, length_of_section}
 use Rattle.linking_model.specs.Laws.{LiesInSegment}
-use Rattle.linking_model.specs.Linked.{Placement, linked_section}
 use Rattle.linking_model.proofs.Extents.{sections_lie_in_segments}
-use Rattle.linking_model.proofs.Sums.{sections_are_apart}
-use Rattle.text_store.specs.Content.{section_of}
 use Rattle.addr_assign.specs.Laid.{is_in_tree, are_in_tree}
 use Rattle.relocate.specs.Ready.{StandsInTree}
-use Rattle.relocate.specs.Agreeing.{linked_text}
 use Rattle.relocate.proofs.Bounds.{Found, of_each}
 use Rattle.block_storage.specs.Storage.{alone}
-use Rattle.block_storage.specs.Gathered.{StandApart}
 
 -- ---- sections
 
@@ -59,43 +54,8 @@ ends_inside p i stand within =
     let size : length_of_section p i ≡ at.item.length = ap (λ o. option_map_or (λ x. x.length) o 0) at.found in
     rw (module_end p, size) (subst (λ s. place (alone p) i + at.item.length ≤ end_of (alone p) s) (segment_one p i at.item stand at.found) lies.ends)
 
-pub stand_in_order : (p : Program) (i j : ℕ) → All (StandsInTree (root ∷ [])) p.sections → i < j → j < length p.sections
-    → place (alone p) i + length_of_section p i ≤ place (alone p) j
-stand_in_order p i j stand before within =
-    let x : Found p.sections i (λ _. ⊤) = got p.sections i (omega (arith, before, within)) in
-    let y : Found p.sections j (λ _. ⊤) = got p.sections j within in
-    let size : length_of_section p i ≡ x.item.length = ap (λ o. option_map_or (λ x. x.length) o 0) x.found in
-    rw size (sections_are_apart (alone p) i j x.item y.item before x.found y.found
-    (segment_one p i x.item stand x.found ∙ sym (segment_one p j y.item stand y.found)))
-
 abbrev pub addresses : Program → List ℕ
 addresses p = map (place (alone p)) (range_with_len 0 (length p.sections))
 
 pub address_at : (p : Program) (i : ℕ) → i < length p.sections → slice_index (addresses p) i ≡ place (alone p) i
 address_at p i within = get_or-map-range_with_len (place (alone p)) 0 (length p.sections) i i 0 within (omega arith)
-
-pub linked_at : (P : Laid) (q : Placement) (i : ℕ) → i < length P.program.sections → section_of (linked_text P q) i ≡ linked_section P q i
-unfolding linked_text
-linked_at P q i within = get_or-map-range_with_len (linked_section P q) 0 (length P.program.sections) i i [] within (omega arith)
-
-pub linked_count : (P : Laid) (q : Placement) → length (linked_text P q) ≡ length P.program.sections
-unfolding linked_text
-linked_count P q = length-map-range_with_len (linked_section P q) 0 (length P.program.sections)
-
-pub linked_size : (P : Laid) (q : Placement) (i : ℕ) → i < length P.program.sections
-    → length (section_of (linked_text P q) i) ≡ length_of_section P.program i
-linked_size P q i within =
-    ap length (linked_at P q i within) ∙ length-map-range_with_len _ 0 (length_of_section P.program i)
-
-pub stand_apart : (p : Program) (q : Placement) → All (StandsInTree (root ∷ [])) p.sections
-    → StandApart (linked_text (alone p) q) (addresses p) (module_length (alone p))
-stand_apart p q stand = record {
-  count = length-map-range_with_len (place (alone p)) 0 (length p.sections) ∙ sym (linked_count (alone p) q);
-  apart = λ i j before within.
-      let there : j < length p.sections = subst (λ n. j < n) (linked_count (alone p) q) within in
-      let first : i < length p.sections = omega (arith, before, there) in
-      rw (address_at p i first, address_at p j there, linked_size (alone p) q i first) (stand_in_order p i j stand before there);
-  inside = λ i within.
-      let there : i < length p.sections = subst (λ n. i < n) (linked_count (alone p) q) within in
-      rw (address_at p i there, linked_size (alone p) q i there) (ends_inside p i stand there);
-}

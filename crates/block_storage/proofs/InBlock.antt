@@ -1,4 +1,4 @@
--- From the stored text to the storage of a program of one segment.
+-- From the stored text to the linked text of a program of one segment.
 use Rattle.std.proofs.Common.{◌≡◌, ℕ, ◌+◌, ◌<◌, ◌≤◌, List, [], ◌∷◌, length, All, refl, sym, ◌∙◌, ap, subst}
 use Rattle.std.proofs.lemmas.List.{ext_get_or, get_or-map, length-map}
 use Rattle.sym_mod.specs.Sound.{IsSoundProgram}
@@ -7,7 +7,7 @@ use Rattle.sym_mod.specs.declared.program.Places.{Places}
 use Rattle.sym_mod.specs.declared.program.Target.{Target}
 use Rattle.linking_model.specs.Tree.{Tree, root}
 use Rattle.linking_model.specs.Places.{Laid, length_of_section, module_length}
-use Rattle.linking_model.specs.Linked.{Placement, block}
+use Rattle.linking_model.specs.Linked.{block}
 use Rattle.text_store.specs.Content.{section_of}
 use Rattle.addr_assign.specs.Laid.{places_of}
 use Rattle.relocate.specs.Ready.{StandsInTree, FitTogether}
@@ -15,11 +15,8 @@ use Rattle.relocate.specs.Relocated.{relocated}
 use Rattle.relocate.specs.Agreeing.{stored_text, linked_text}
 use Rattle.relocate.proofs.Agreeing.{stored_text_is_linked, length_stored, length_stored_section}
 use Rattle.relocate.proofs.Steps.{HasLengths}
-use Rattle.block_storage.specs.Storage.{alone, moved, storage}
-use Rattle.block_storage.specs.Gathered.{gathered, StandApart}
-use Rattle.block_storage.proofs.Alone.{linked_count, linked_size, stand_apart}
-use Rattle.block_storage.proofs.Fitting.{sections_are, fit_together, make_block, all_reached}
-use Rattle.block_storage.proofs.Stored.{storage_is}
+use Rattle.block_storage.specs.Storage.{alone, moved}
+use Rattle.block_storage.proofs.Fitting.{fit_together, make_block, all_reached}
 use Rattle.block_storage.proofs.Texts.{lengths_got}
 
 has_lengths : (X : List (List ℕ)) (p : Program) → length X ≡ length p.sections
@@ -32,9 +29,6 @@ has_lengths X p count sizes =
 
 pub stored_lengths : (p : Program) → HasLengths (stored_text p) p
 stored_lengths p = has_lengths (stored_text p) p (length_stored p) (length_stored_section p)
-
-pub linked_lengths : (p : Program) (q : Placement) → HasLengths (linked_text (alone p) q) p
-linked_lengths p q = has_lengths (linked_text (alone p) q) p (linked_count (alone p) q) (linked_size (alone p) q)
 
 -- what the call has: the tree of the root, tables without entries, and addresses at the origin
 pub record IsAlone (p : Program) (at : ℕ) (tree : Tree) (entries : List (List Target)) (a m : Places) : Type 0 where
@@ -71,17 +65,3 @@ links p at tree entries a m X it stored =
     ∙ (ap (relocated (alone p) (moved at (places_of (alone p)))) stored
     ∙ stored_text_is_linked (alone p) (moved at (places_of (alone p))) (block (alone p) at)
     (fit_together p at it.sound it.stand it.near) (make_block p at) (all_reached p it.sound it.stand)))
-
-length_is : (p : Program) → (places_of (alone p)).length ≡ module_length (alone p)
-unfolding places_of
-length_is p = refl
-
-pub apart : (p : Program) (at : ℕ) (a : Places) (X : List (List ℕ)) → All (StandsInTree (root ∷ [])) p.sections → a ≡ places_of (alone p)
-    → X ≡ linked_text (alone p) (block (alone p) at) → StandApart X a.sections a.length
-apart p at a X stand placed linked =
-    rw (linked, placed, sections_are p, length_is p) (stand_apart p (block (alone p) at) stand)
-
-pub gathers : (p : Program) (at : ℕ) (a : Places) (X : List (List ℕ)) → All (StandsInTree (root ∷ [])) p.sections → a ≡ places_of (alone p)
-    → X ≡ linked_text (alone p) (block (alone p) at) → gathered X a.sections (length X) a.length ≡ storage (alone p) at
-gathers p at a X stand placed linked =
-    rw (linked, placed, sections_are p, length_is p, linked_count (alone p) (block (alone p) at)) (storage_is p at stand)

@@ -32,7 +32,7 @@ section_of_text : (p : Program) (byte : ℕ → ℕ → ℕ) (i : ℕ) → i < l
 section_of_text p byte i within =
     get_or-map-range_with_len (λ i. map (byte i) (range_with_len 0 (length_of_section p i))) 0 (length p.sections) i i [] within (omega arith)
 
-pub map_same : {A B : Type 0} (f g : A → B) (xs : List A) → ((x : A) → f x ≡ g x) → map f xs ≡ map g xs
+map_same : {A B : Type 0} (f g : A → B) (xs : List A) → ((x : A) → f x ≡ g x) → map f xs ≡ map g xs
 map_same f g [] same = refl
 map_same f g (x ∷ xs) same = rw (same x, map_same f g xs same) refl
 
@@ -83,7 +83,7 @@ all_texts p byte (t ∷ texts) lie =
     ap (λ X. fold with_text X texts) (one_text p byte t (lie 0 t (omega arith)))
     ∙ all_texts p (λ i o. byte_with t i o (byte i o)) texts (λ k d within. lie (suc k) d (omega (arith, within)))
 
-pub zeros : (n : ℕ) → replicate {A = ℕ} n 0 ≡ map (λ o. 0) (range_with_len 0 n)
+zeros : (n : ℕ) → replicate {A = ℕ} n 0 ≡ map (λ o. 0) (range_with_len 0 n)
 zeros n =
     ext_get_or {A = ℕ} 0 _ _ (length-replicate {A = ℕ} n 0 ∙ sym (length-map-range_with_len (λ o. 0) 0 n))
     (λ i within. let below : i < n = subst (λ m. i < m) (length-replicate {A = ℕ} n 0) within in

@@ -10,11 +10,11 @@ use Rattle.linking_model.specs.Numbers.{is_among}
 abbrev pub byte_after : (ℕ → ℕ) → ℕ → List ℕ → ℕ → ℕ
 byte_after f off bytes o = if is_among off (length bytes) o then slice_index bytes (o - off) else f o
 
-pub length_written : (xs bytes : List ℕ) (off : ℕ) → off + length bytes ≤ length xs
+length_written : (xs bytes : List ℕ) (off : ℕ) → off + length bytes ≤ length xs
     → length (take off xs ++ (bytes ++ drop (off + length bytes) xs)) ≡ length xs
 length_written xs bytes off h = grind (arith, common_steps)
 
-pub read_written : (xs bytes : List ℕ) (off i : ℕ) → off + length bytes ≤ length xs → i < length xs
+read_written : (xs bytes : List ℕ) (off i : ℕ) → off + length bytes ≤ length xs → i < length xs
     → get_or (take off xs ++ (bytes ++ drop (off + length bytes) xs)) i 0
     ≡ (if is_among off (length bytes) i then slice_index bytes (i - off) else get_or xs i 0)
 read_written xs bytes off i h within = grind (arith, common_steps)
@@ -35,7 +35,3 @@ written f g n off bytes h says =
     ∙ (ap (λ x. if is_among off (length bytes) i then slice_index bytes (i - off) else x)
     (get_or-map-range_with_len f 0 n i i 0 below (omega arith))
     ∙ (sym (says i below) ∙ sym (get_or-map-range_with_len g 0 n i i 0 below (omega arith)))))
-
--- a list that was lent whole and comes back
-pub refilled : (xs old : List ℕ) (n : ℕ) → n ≡ length xs → take n (xs ++ drop (length xs) old) ≡ xs
-refilled xs old n size = grind (arith, common_steps)

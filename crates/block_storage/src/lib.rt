@@ -1,12 +1,8 @@
-//! A linked program of one segment: its text laid, its constants with their numbers, and every section
-//! at its place in one block.
+//! A linked program of one segment: its text laid, and its constants with their numbers.
 #![tactic(auto)]
 
-mod block;
-mod gathering;
 mod laying;
 mod moving;
 mod relocating;
 
-pub use block::block_bytes;
 pub use relocating::linked_text;

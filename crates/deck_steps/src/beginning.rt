@@ -15,9 +15,17 @@ pub(crate) enum Beginning {
     ADeck,
 }
 
+/// Column 1 of an object card.
+const OBJECT: u8 = 0x02;
+
+#[tactic(auto, using(crate::proofs::ObjectCards::object_begins))]
 pub(crate) fn begun_by(card: &[u8; 80]) -> Beginning
     ensures { result ≡ begun_by (card_of card.now) }
 {
+    // An object card begins a deck whatever else it says, and its deck reads it.
+    if card[0] == OBJECT {
+        return Beginning::ADeck;
+    }
     match read_card(card) {
         Ok(Card::Comment) => Beginning::Nothing,
         Ok(Card::Statement(_)) => Beginning::AStatement,

@@ -32,8 +32,7 @@ pub fn read_decks(alloc: Global, bytes: &[u8]) -> Result<Merged, DeckStop>
     ensures reads { Reads (decks_of bytes.now) result }
     ensures root { IfOk result (All IsInRoot) }
 {
-    let cards = whole_cards(alloc, bytes)?;
-    merge_decks(alloc, &cards, has_short_card(bytes))
+    merge_decks(alloc, whole_cards(bytes), has_short_card(bytes))
 }
 
 /// The decks of whole cards, with or without a shorter card after them.

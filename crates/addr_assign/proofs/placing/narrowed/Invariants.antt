@@ -2,4 +2,4 @@ use Rattle.std.proofs.Common.{◌≡◌, take}
 use Rattle.addr_assign.proofs.placing.narrowed.Given as goal
 
 abbrev pub invariant-loop-n : goal.invariant-loop-n
-invariant-loop-n l = l.narrow ≡ take l.n-index l.numbers
+invariant-loop-n l = l.narrow.items ≡ take l.n-index l.numbers

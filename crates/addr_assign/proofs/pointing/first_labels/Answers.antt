@@ -3,7 +3,7 @@ use Rattle.addr_assign.proofs.Maps.{label_back, no_labels}
 use Rattle.addr_assign.proofs.pointing.first_labels.Goals as goal
 
 pub loop-done-init : goal.loop-done-init
-loop-done-init c = λ n. search (rules, c.new-firsts.ensures.empty, no_labels c.args.labels.now n)
+loop-done-init c = λ n. search (rules, c.in_ok-firsts.ensures.empty, no_labels c.args.labels.now n)
 
 pub loop-done-preserved : goal.loop-done-preserved
 loop-done-preserved c = λ n.

@@ -6,7 +6,7 @@ use Rattle.addr_assign.proofs.Maps.{section_back, no_sections}
 use Rattle.addr_assign.proofs.settling.section_numbers.Goals as goal
 
 pub loop-done-init : goal.loop-done-init
-loop-done-init c = λ n. search (rules, c.new-named.ensures.empty, no_sections c.args.sections.now n)
+loop-done-init c = λ n. search (rules, c.in_ok-named.ensures.empty, no_sections c.args.sections.now n)
 
 pub loop-done-preserved : goal.loop-done-preserved
 loop-done-preserved c = λ n.
