@@ -26,12 +26,12 @@ use Rattle.mod_write.specs.Written.{segment_bytes, bytes_of_segments}
 -- ---- the parts of a segment
 
 -- the pieces with those of one more part
-pub parts_more : (P : Laid) (n k : ℕ) (xs : List Part) (x : Part) (old new : List Piece) → k < length xs → x ≡ get_or xs k x
+pub parts_more : (P : Laid) (n k : ℕ) (xs : List Part) (x none : Part) (old new : List Piece) → k < length xs → x ≡ get_or xs k none
     → old ≡ flat_map (part_pieces P n) (map seen (take k xs)) → new ≡ old ++ part_pieces P n (seen x)
     → new ≡ flat_map (part_pieces P n) (map seen (take (k + 1) xs))
-parts_more P n k xs x old new there at so_far added =
+parts_more P n k xs x none old new there at so_far added =
     let front : List Seen = map seen (take k xs) in
-    let more : map seen (take (k + 1) xs) ≡ front ++ seen x ∷ [] = map_more seen xs k x there ∙ ap (λ y. front ++ seen y ∷ []) (sym at) in
+    let more : map seen (take (k + 1) xs) ≡ front ++ seen x ∷ [] = map_more seen xs k none there ∙ ap (λ y. front ++ seen y ∷ []) (sym at) in
     let last : flat_map (part_pieces P n) (seen x ∷ []) ≡ part_pieces P n (seen x) = flat_map-cons (part_pieces P n) (seen x) [] ∙ append-nil (part_pieces P n (seen x)) in
     added
     ∙ (ap (λ v. v ++ part_pieces P n (seen x)) so_far

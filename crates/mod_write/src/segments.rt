@@ -1,11 +1,13 @@
 //! The records of the segments of a program.
-ghost use Rattle.std.specs.Prelude.{◌≡◌, ◌<◌, ◌≤◌, ◌++◌, All, length, map, IfOk, OnOk};
+ghost use Rattle.std.specs.Prelude.{◌≡◌, ◌<◌, ◌≤◌, ◌++◌, List, All, length, map, IfOk, OnOk};
 ghost use Rattle.member_model.specs.Parts.{SegmentTable as Segtab, OneSection, EntryTable as Entab, part_number, part_place, part_length};
 ghost use Rattle.member_model.specs.Chunks.{part_items};
+ghost use Rattle.member_model.specs.Pieces.{Piece};
 ghost use Rattle.member_model.specs.Written.{part_pieces};
 ghost use Rattle.part_list.specs.Seen.{seen, IsPartOf};
-ghost use Rattle.segment_write.specs.Pieces.{seen as seen_piece, IsPiece, IsPart};
+ghost use Rattle.segment_write.specs.Pieces.{IsPart};
 ghost use Rattle.segment_write.specs.Records.{IsStored};
+ghost use Rattle.segment_write.specs.Writing.{IsReady, HasPieces};
 ghost use Rattle.mod_write.specs.Ready.{IsSource};
 ghost use Rattle.mod_write.specs.Written.{segment_bytes, bytes_of_segments};
 
@@ -14,7 +16,7 @@ use le_bytes::{Bytes, Items, Memory};
 use load_recs::{Ends, RldItem};
 use part_list::{Part, PartList};
 use relocate::{entab_bytes, segtab_bytes};
-use segment_write::{Piece, PlacedPart, add_section, add_table};
+use segment_write::{PlacedPart, SegmentRecords, add_section, add_table};
 use std::alloc::{AllocError, Global};
 use sym_mod::{Places, SecKind};
 use text_store::TextKeeper;
@@ -63,73 +65,74 @@ fn segment<K: TextKeeper>(
     ensures value { IfOk result (λ records. records ≡ segment_bytes from.now.list.now from.now.piece s) }
     ensures sizes { IfOk result (All IsStored) }
 {
-    let mut pieces = Items::new(alloc);
-    for part in from.list.in_segment(s) {
-        add_part(alloc, &mut pieces, from, *part)?;
+    let parts = from.list.in_segment(s);
+    let mut records = SegmentRecords::new(alloc, parts.len())?;
+    for part in parts {
+        add_part(alloc, &mut records, from, *part)?;
     }
     let ends = Ends {
         segment: true,
         module: s == from.list.tree().count(),
     };
-    segment_write::segment_records(alloc, pieces, ends)
+    records.end(alloc, ends)
 }
 
 /// Puts the pieces of a part after those that are there: none of a common area.
 fn add_part<K: TextKeeper>(
     alloc: Global,
-    pieces: &mut Items<Piece>,
+    records: &mut SegmentRecords,
     from: &Source<'_, K>,
     part: Part,
 ) -> Result<(), Memory>
     requires source { IsSource from.now.list.now from.now.places.now (K.content from.now.kept.now) (map (λ v. v.items) from.now.items.now) from.now.piece }
     requires part { IsPartOf from.now.list.now (seen part) }
-    requires ready { All IsPiece (map seen_piece pieces.old) }
-    ensures value { OnOk result (map seen_piece pieces.new ≡ map seen_piece pieces.old ++ part_pieces from.now.list.now from.now.piece (seen part)) }
-    ensures ready { OnOk result (All IsPiece (map seen_piece pieces.new)) }
+    requires ready { IsReady records.old }
+    ensures pieces { OnOk result ((before : List Piece) → HasPieces records.old before → HasPieces records.new (before ++ part_pieces from.now.list.now from.now.piece (seen part))) }
+    ensures ready { OnOk result (IsReady records.new) }
 {
     match part {
-        Part::SegmentTable => add_segment_table(alloc, pieces, from),
-        Part::Section(section) => add_text(alloc, pieces, from, section),
-        Part::EntryTable(segment) => add_entry_table(alloc, pieces, from, segment),
+        Part::SegmentTable => add_segment_table(alloc, records, from),
+        Part::Section(section) => add_text(alloc, records, from, section),
+        Part::EntryTable(segment) => add_entry_table(alloc, records, from, segment),
     }
 }
 
 /// Puts the pieces of the table of segments after those that are there.
 fn add_segment_table<K: TextKeeper>(
     alloc: Global,
-    pieces: &mut Items<Piece>,
+    records: &mut SegmentRecords,
     from: &Source<'_, K>,
 ) -> Result<(), Memory>
     requires source { IsSource from.now.list.now from.now.places.now (K.content from.now.kept.now) (map (λ v. v.items) from.now.items.now) from.now.piece }
-    requires ready { All IsPiece (map seen_piece pieces.old) }
-    ensures value { OnOk result (map seen_piece pieces.new ≡ map seen_piece pieces.old ++ part_pieces from.now.list.now from.now.piece Segtab) }
-    ensures ready { OnOk result (All IsPiece (map seen_piece pieces.new)) }
+    requires ready { IsReady records.old }
+    ensures pieces { OnOk result ((before : List Piece) → HasPieces records.old before → HasPieces records.new (before ++ part_pieces from.now.list.now from.now.piece Segtab)) }
+    ensures ready { OnOk result (IsReady records.new) }
 {
     let part = placed(from, Part::SegmentTable, &[]);
     let mut bytes = zeros(alloc, part.length)?;
     segtab_bytes(from.list.tree(), &mut bytes);
-    add_table(alloc, pieces, from.piece, part, &bytes)
+    add_table(alloc, records, from.piece, part, &bytes)
 }
 
 /// Puts the pieces of a section after those that are there: none of a common area.
 fn add_text<K: TextKeeper>(
     alloc: Global,
-    pieces: &mut Items<Piece>,
+    records: &mut SegmentRecords,
     from: &Source<'_, K>,
     section: u32,
 ) -> Result<(), Memory>
     requires source { IsSource from.now.list.now from.now.places.now (K.content from.now.kept.now) (map (λ v. v.items) from.now.items.now) from.now.piece }
     requires there { section < length from.now.list.now.program.sections }
-    requires ready { All IsPiece (map seen_piece pieces.old) }
-    ensures value { OnOk result (map seen_piece pieces.new ≡ map seen_piece pieces.old ++ part_pieces from.now.list.now from.now.piece (OneSection section)) }
-    ensures ready { OnOk result (All IsPiece (map seen_piece pieces.new)) }
+    requires ready { IsReady records.old }
+    ensures pieces { OnOk result ((before : List Piece) → HasPieces records.old before → HasPieces records.new (before ++ part_pieces from.now.list.now from.now.piece (OneSection section))) }
+    ensures ready { OnOk result (IsReady records.new) }
 {
     let part = Part::Section(section);
     match from.list.kind_of(part) {
         SecKind::Cm => Ok(()),
         SecKind::Sd | SecKind::Pc => {
             let part = placed(from, part, &from.items[section as usize]);
-            add_section(alloc, pieces, from.piece, part, from.kept, section)
+            add_section(alloc, records, from.piece, part, from.kept, section)
         }
     }
 }
@@ -137,16 +140,16 @@ fn add_text<K: TextKeeper>(
 /// Puts the pieces of the entry table of a segment after those that are there.
 fn add_entry_table<K: TextKeeper>(
     alloc: Global,
-    pieces: &mut Items<Piece>,
+    records: &mut SegmentRecords,
     from: &Source<'_, K>,
     segment: u8,
 ) -> Result<(), Memory>
     requires source { IsSource from.now.list.now from.now.places.now (K.content from.now.kept.now) (map (λ v. v.items) from.now.items.now) from.now.piece }
     requires first { 1 ≤ segment }
     requires last { segment ≤ length from.now.list.now.tree }
-    requires ready { All IsPiece (map seen_piece pieces.old) }
-    ensures value { OnOk result (map seen_piece pieces.new ≡ map seen_piece pieces.old ++ part_pieces from.now.list.now from.now.piece (Entab segment)) }
-    ensures ready { OnOk result (All IsPiece (map seen_piece pieces.new)) }
+    requires ready { IsReady records.old }
+    ensures pieces { OnOk result ((before : List Piece) → HasPieces records.old before → HasPieces records.new (before ++ part_pieces from.now.list.now from.now.piece (Entab segment))) }
+    ensures ready { OnOk result (IsReady records.new) }
 {
     let items = entry_items(alloc, from.list, from.places, segment)?;
     let part = placed(from, Part::EntryTable(segment), &items);
@@ -158,7 +161,7 @@ fn add_entry_table<K: TextKeeper>(
         segment,
         &mut bytes,
     );
-    add_table(alloc, pieces, from.piece, part, &bytes)
+    add_table(alloc, records, from.piece, part, &bytes)
 }
 
 /// A part with its number, its address, its length and these relocation items, which are its own.

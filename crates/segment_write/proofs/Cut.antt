@@ -5,16 +5,15 @@ use Rattle.std.specs.List.Sorted.{IsNonDecreasingBy}
 use Rattle.std.proofs.Math.Nat.{mul-le-mul_left, mul-div-le}
 use Rattle.std.proofs.lemmas.List.{take_min}
 use Rattle.std.proofs.lemmas.Bool.Decides.{nat_tests}
-use Rattle.std.proofs.lemmas.List.Elements.{All-cons, All-head, All-tail, All-push, All-filter, All-take, filter_agree}
+use Rattle.std.proofs.lemmas.List.Elements.{All-cons, All-head, All-tail, filter_agree}
 use Rattle.std.proofs.lemmas.List.Kept.{IsNonDecreasingBy-filter}
 use Rattle.std.proofs.lemmas.List.FromFn.{map-range_with_len_more}
 use Rattle.load_recs.specs.declared.items.RldItem.{RldItem}
-use Rattle.linking_model.specs.Numbers.{is_among}
-use Rattle.member_model.specs.Cuts.{cut_at, cuts}
+use Rattle.member_model.specs.Cuts.{cut_at}
 use Rattle.member_model.specs.Chunks.{chunks, chunk_bytes}
 use Rattle.member_model.specs.Pieces.{Piece, ends_among, piece_of, pieces}
-use Rattle.segment_write.specs.Chunks.{IsItem, IsChunk}
-use Rattle.segment_write.specs.Pieces.{seen, IsPiece, IsPart, IsPieceLength, last_byte}
+use Rattle.segment_write.specs.Chunks.{IsChunk}
+use Rattle.segment_write.specs.Pieces.{IsPiece, IsPieceLength, last_byte}
 
 -- ---- a list in the order of a number of each item
 

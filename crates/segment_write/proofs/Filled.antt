@@ -1,12 +1,11 @@
 -- A chunk that is filled item by item has the bytes of its items.
-use Rattle.std.proofs.Common.{◌≡◌, ℕ, ◌+◌, ◌*◌, ◌%◌, ◌≤◌, Bool, true, false, ◌&&◌, ◌==◌, nat_lt, if◌then◌else◌, List, [], ◌∷◌, ◌++◌, length, map, drop, Some, None, All, refl, sym, ap, ◌∙◌, append_assoc, length-append, arith}
+use Rattle.std.proofs.Common.{◌≡◌, ℕ, ◌+◌, ◌≤◌, Bool, true, false, nat_lt, if◌then◌else◌, List, [], ◌∷◌, ◌++◌, length, map, drop, Some, All, refl, sym, ap, ◌∙◌, append_assoc, length-append, arith}
 use Rattle.std.proofs.lemmas.List.{append-nil, drop_all}
 use Rattle.std.proofs.lemmas.List.Elements.{All-head, All-tail, All-push, All-nil}
 use Rattle.std.proofs.lemmas.Bool.Decides.{nat_tests}
 use Rattle.load_recs.specs.Relocations.{is_joined, pointers_of, kept_by}
 use Rattle.load_recs.specs.ItemBytes.{rld_item_bytes, rld_list_bytes, kept_before}
 use Rattle.load_recs.specs.declared.items.RldItem.{RldItem}
-use Rattle.load_recs.specs.declared.relocation_items.Pointers.{Pointers}
 use Rattle.member_model.specs.Chunks.{same_pointers, room_after, chunks_after, chunks, joined, chunk_bytes}
 use Rattle.segment_write.specs.Chunks.{IsItem, told, size, begun, continued, closed, chunks_from}
 use Rattle.segment_write.specs.declared.chunking.Filling.{Filling}

@@ -1,14 +1,13 @@
 -- What is read of a chunk are its items.
-use Rattle.std.proofs.Common.{◌≡◌, ℕ, ◌+◌, ◌*◌, ◌/◌, ◌%◌, ◌≤◌, ◌<◌, Bool, true, false, not, ◌&&◌, ◌||◌, ◌==◌, nat_lt, if◌then◌else◌, List, [], ◌∷◌, ◌++◌, fold, length, map, Some, None, All, refl, sym, ap, subst, ◌∙◌, append_assoc, length-append, arith}
+use Rattle.std.proofs.Common.{◌≡◌, ℕ, ◌+◌, ◌/◌, ◌≤◌, ◌<◌, Bool, true, false, nat_lt, if◌then◌else◌, List, [], ◌∷◌, ◌++◌, fold, map, All, refl, sym, ap, subst, ◌∙◌, append_assoc, arith}
 use Rattle.std.specs.List.{list_any}
 use Rattle.std.proofs.lemmas.List.{append-nil}
 use Rattle.std.proofs.lemmas.List.Elements.{All-head, All-tail, All-push, All-nil, All-cons}
 use Rattle.std.proofs.lemmas.Bool.Decides.{nat_tests}
 use Rattle.byteorder.specs.Endian.{big_bytes, big_number}
 use Rattle.byteorder.specs.Numbers.{big_number-reads_back}
-use Rattle.load_recs.specs.Relocations.{is_joined, is_wrong_flag, pointers_of, kept_after, kept_by, rlds_after, left_after, rlds_of, is_whole, is_wrong_after, has_wrong_flag}
+use Rattle.load_recs.specs.Relocations.{is_joined, is_wrong_flag, pointers_of, kept_after, kept_by, rlds_after, left_after, has_wrong_flag}
 use Rattle.load_recs.specs.ItemBytes.{IsRld, rld_item_bytes, kept_before}
-use Rattle.load_recs.specs.Records.{AreRlds}
 use Rattle.load_recs.specs.declared.items.RldItem.{RldItem}
 use Rattle.load_recs.specs.declared.relocation_items.Pointers.{Pointers}
 use Rattle.member_model.specs.Chunks.{same_pointers, room_after, chunks_after, chunks, joined, chunk_bytes}

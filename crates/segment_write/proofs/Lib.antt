@@ -2,3 +2,4 @@ pub mod Cut
 pub mod Filled
 pub mod Held
 pub mod Recorded
+pub mod Writing

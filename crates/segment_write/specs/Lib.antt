@@ -1,3 +1,4 @@
 pub mod Chunks
 pub mod Pieces
 pub mod Records
+pub mod Writing

@@ -1,5 +1,5 @@
 -- Pieces of text as the definitions of members speak of them, and what a part keeps to be cut into pieces.
-use Rattle.std.specs.Prelude.{◌≡◌, ℕ, ◌+◌, ◌-◌, ◌^◌, ◌<◌, ◌≤◌, List, All}
+use Rattle.std.specs.Prelude.{ℕ, ◌+◌, ◌-◌, ◌^◌, ◌<◌, ◌≤◌, All}
 use Rattle.std.specs.List.Sorted.{IsNonDecreasingBy}
 use Rattle.load_recs.specs.Records.{IsTextHead, most_text}
 use Rattle.load_recs.specs.declared.items.RldItem.{RldItem}

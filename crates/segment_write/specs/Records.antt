@@ -1,5 +1,5 @@
 -- What the records of a segment are made of, and that a library can hold each.
-use Rattle.std.specs.Prelude.{◌≡◌, ℕ, ◌-◌, ◌^◌, ◌<◌, List, [], ◌∷◌, map, length, take, slice_get, unwrap_or}
+use Rattle.std.specs.Prelude.{ℕ, ◌-◌, ◌^◌, ◌<◌, List, [], ◌∷◌, map, length, take, slice_get, unwrap_or}
 use Rattle.load_recs.specs.Records.{Record, RldRecord, TextRecord}
 use Rattle.load_recs.specs.declared.records.Ends.{Ends}
 use Rattle.member_model.specs.Facts.{nothing_ends}

@@ -8,10 +8,13 @@ ghost use Rattle.segment_write.specs.Chunks.{IsItem, IsChunk, told, size, begun,
 
 use le_bytes::{Bytes, Items, Memory};
 use load_recs::{RldItem, put_rld_item};
-use std::alloc::Global;
+use std::alloc::{AllocError, Global};
+use std::mem;
 
 /// The greatest number of bytes of a chunk.
 const MOST_BYTES: usize = 240;
+/// The number of items that fill a chunk where each says its numbers.
+const FEWEST_ITEMS: usize = 30;
 
 /// Cuts relocation items into chunks, each of as many items as stand in 240 bytes, in one pass. An
 /// item that has the numbers of the one before it in its chunk does not say them again.
@@ -36,36 +39,36 @@ fn filled(alloc: Global, first: RldItem, rest: &[RldItem]) -> Result<Items<Bytes
     ensures value { IfOk result (λ made. made ≡ map chunk_bytes (chunks (first ∷ rest.now))) }
     ensures kept { IfOk result (All IsChunk) }
 {
-    let mut made = Items::new(alloc);
-    let mut chunk = Filling::begun(alloc, first);
+    let mut made = Items::from_vec(Vec::with_capacity(alloc, rest.len() / FEWEST_ITEMS + 1)?);
+    let mut chunk = Filling::begun(alloc, first, rest.len())?;
     for item in rest {
-        chunk = with_item(alloc, &mut made, chunk, *item)?;
+        put_item(alloc, &mut made, &mut chunk, *item)?;
     }
     made.push(chunk.closed()?)?;
     Ok(made)
 }
 
-/// The chunk with one more item, or, where it has no room for that, a chunk of its own after this one.
+/// Puts one more item into the chunk, or, where that has no room for it, closes the chunk and begins
+/// one after it.
 #[tactic(auto, unfolding(crate::specs::Chunks::chunks_from))]
-fn with_item(
+fn put_item(
     alloc: Global,
     made: &mut Items<Bytes>,
-    chunk: Filling,
+    chunk: &mut Filling,
     item: RldItem,
-) -> Result<Filling, Memory>
-    requires last { IsItem chunk.last }
-    requires short { size chunk ≤ 240 }
-    ensures chunks { IfOk result (λ next. (rest : List Item) → made.new ++ chunks_from next rest ≡ made.old ++ chunks_from chunk (item ∷ rest)) }
-    ensures last { IfOk result (λ next. next.last ≡ item) }
-    ensures short { IfOk result (λ next. size next ≤ 240) }
+) -> Result<(), Memory>
+    requires last { IsItem chunk.old.last }
+    requires short { size chunk.old ≤ 240 }
+    ensures chunks { OnOk result ((rest : List Item) → made.new ++ chunks_from chunk.new rest ≡ made.old ++ chunks_from chunk.old (item ∷ rest)) }
+    ensures last { OnOk result (chunk.new.last ≡ item) }
+    ensures short { OnOk result (size chunk.new ≤ 240) }
 {
     if MOST_BYTES < chunk.size() + room_after(&chunk.last, &item) {
-        made.push(chunk.closed()?)?;
-        return Ok(Filling::begun(alloc, item));
+        let full = mem::replace(chunk, Filling::begun(alloc, item, FEWEST_ITEMS)?);
+        made.push(full.closed()?)?;
+        return Ok(());
     }
-    let mut chunk = chunk;
-    chunk.add(item)?;
-    Ok(chunk)
+    chunk.add(item)
 }
 
 fn has_same_pointers(x: &RldItem, y: &RldItem) -> bool
@@ -92,14 +95,18 @@ pub(crate) struct Filling {
 }
 
 impl Filling {
-    fn begun(alloc: Global, item: RldItem) -> Filling
-        ensures { result ≡ begun item }
+    /// A chunk of one item, with memory for so many after it, or for as many as a chunk has.
+    fn begun(alloc: Global, item: RldItem, after: usize) -> Result<Filling, AllocError>
+        ensures { IfOk result (λ chunk. chunk ≡ begun item) }
     {
-        Filling {
-            bytes: Bytes::new(alloc),
+        Ok(Filling {
+            bytes: Bytes::from_vec(Vec::with_capacity(
+                alloc,
+                8 * FEWEST_ITEMS.min(after.saturating_add(1)),
+            )?),
             last: item,
             short: false,
-        }
+        })
     }
 
     /// The bytes of all its items.

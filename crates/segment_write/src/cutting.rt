@@ -1,16 +1,18 @@
 //! The text of a part in pieces.
-ghost use Rattle.std.specs.Prelude.{◌≡◌, ◌+◌, ◌-◌, ◌*◌, ◌/◌, ◌^◌, ◌<◌, ◌≤◌, ◌++◌, nat_lt, All, length, map, take, drop, min, IfOk, OnOk};
+ghost use Rattle.std.specs.Prelude.{◌≡◌, ◌+◌, ◌-◌, ◌*◌, ◌/◌, ◌^◌, ◌<◌, ◌≤◌, ◌++◌, nat_lt, List, All, length, map, take, drop, min, IfOk, OnOk};
 ghost use Rattle.std.specs.List.{prefix_len};
 ghost use Rattle.member_model.specs.Chunks.{chunks, chunk_bytes};
-ghost use Rattle.member_model.specs.Pieces.{pieces as pieces_of};
+ghost use Rattle.member_model.specs.Pieces.{Piece as Seen, pieces as pieces_of};
 ghost use Rattle.text_store.specs.Content.{section_of};
 ghost use Rattle.segment_write.specs.Chunks.{IsItem, IsChunk};
-ghost use Rattle.segment_write.specs.Pieces.{seen, IsPiece, IsPart, IsPieceLength, last_byte};
+ghost use Rattle.segment_write.specs.Pieces.{seen, IsPart, IsPieceLength, last_byte};
+ghost use Rattle.segment_write.specs.Writing.{IsReady, HasPieces};
 
 use crate::chunking::chunks;
 use crate::piece::{Piece, PlacedPart};
+use crate::recording::SegmentRecords;
 use crate::text::{KeptText, PartText, WholePart, copied};
-use le_bytes::{Items, Memory};
+use le_bytes::Memory;
 use load_recs::RldItem;
 use std::alloc::Global;
 use text_store::TextKeeper;
@@ -23,7 +25,7 @@ use text_store::TextKeeper;
 /// Want of memory, after which some of the pieces may be there.
 pub fn add_section<K: TextKeeper>(
     alloc: Global,
-    pieces: &mut Items<Piece>,
+    records: &mut SegmentRecords,
     most: u32,
     part: PlacedPart<'_>,
     kept: &K,
@@ -32,12 +34,12 @@ pub fn add_section<K: TextKeeper>(
     requires most { IsPieceLength most }
     requires part { IsPart part }
     requires whole { length (section_of (K.content kept.now) section) ≡ part.length }
-    requires ready { All IsPiece (map seen pieces.old) }
-    ensures value { OnOk result (map seen pieces.new ≡ map seen pieces.old
-        ++ pieces_of most part.entry.number part.entry.address part.entry.items.now (section_of (K.content kept.now) section)) }
-    ensures ready { OnOk result (All IsPiece (map seen pieces.new)) }
+    requires ready { IsReady records.old }
+    ensures pieces { OnOk result ((before : List Seen) → HasPieces records.old before
+        → HasPieces records.new (before ++ pieces_of most part.entry.number part.entry.address part.entry.items.now (section_of (K.content kept.now) section))) }
+    ensures ready { OnOk result (IsReady records.new) }
 {
-    add_pieces(alloc, pieces, most, part, &KeptText { kept, section })
+    add_pieces(alloc, records, most, part, &KeptText { kept, section })
 }
 
 /// Puts the pieces of an overlay table of these bytes after those that are there, as `add_section` does.
@@ -46,7 +48,7 @@ pub fn add_section<K: TextKeeper>(
 /// Want of memory, after which some of the pieces may be there.
 pub fn add_table(
     alloc: Global,
-    pieces: &mut Items<Piece>,
+    records: &mut SegmentRecords,
     most: u32,
     part: PlacedPart<'_>,
     bytes: &[u8],
@@ -54,18 +56,18 @@ pub fn add_table(
     requires most { IsPieceLength most }
     requires part { IsPart part }
     requires whole { length bytes.now ≡ part.length }
-    requires ready { All IsPiece (map seen pieces.old) }
-    ensures value { OnOk result (map seen pieces.new ≡ map seen pieces.old
-        ++ pieces_of most part.entry.number part.entry.address part.entry.items.now bytes.now) }
-    ensures ready { OnOk result (All IsPiece (map seen pieces.new)) }
+    requires ready { IsReady records.old }
+    ensures pieces { OnOk result ((before : List Seen) → HasPieces records.old before
+        → HasPieces records.new (before ++ pieces_of most part.entry.number part.entry.address part.entry.items.now bytes.now)) }
+    ensures ready { OnOk result (IsReady records.new) }
 {
-    add_pieces(alloc, pieces, most, part, &WholePart { bytes })
+    add_pieces(alloc, records, most, part, &WholePart { bytes })
 }
 
 /// The pieces of a part. The items that are left go along, so that each is looked at in one piece only.
 fn add_pieces<T: PartText>(
     alloc: Global,
-    pieces: &mut Items<Piece>,
+    records: &mut SegmentRecords,
     most: u32,
     part: PlacedPart<'_>,
     text: &T,
@@ -73,17 +75,17 @@ fn add_pieces<T: PartText>(
     requires most { IsPieceLength most }
     requires part { IsPart part }
     requires whole { length (T.text text.now) ≡ part.length }
-    requires ready { All IsPiece (map seen pieces.old) }
-    ensures value { OnOk result (map seen pieces.new ≡ map seen pieces.old
-        ++ pieces_of most part.entry.number part.entry.address part.entry.items.now (T.text text.now)) }
-    ensures ready { OnOk result (All IsPiece (map seen pieces.new)) }
+    requires ready { IsReady records.old }
+    ensures pieces { OnOk result ((before : List Seen) → HasPieces records.old before
+        → HasPieces records.new (before ++ pieces_of most part.entry.number part.entry.address part.entry.items.now (T.text text.now))) }
+    ensures ready { OnOk result (IsReady records.new) }
 {
     let mut rest = part.items;
     for k in 0..(part.length + (most - 1)) / most {
         let at = most * k;
         let size = most.min(part.length - at);
         let (here, later) = rest.split_at(ending_before(rest, part.address + at + size));
-        pieces.push(piece(alloc, part, text, at, size, here)?)?;
+        records.put(alloc, piece(alloc, part, text, at, size, here)?)?;
         rest = later;
     }
     Ok(())

@@ -12,5 +12,5 @@ mod text;
 
 pub use chunking::chunks;
 pub use cutting::{add_section, add_table};
-pub use piece::{Piece, PlacedPart};
-pub use recording::segment_records;
+pub use piece::PlacedPart;
+pub use recording::SegmentRecords;

@@ -17,7 +17,7 @@ pub struct PlacedPart<'a> {
 
 /// A piece of the text of a part, for one text record.
 #[derive(Debug, Drop, PartialEq, Eq)]
-pub struct Piece {
+pub(crate) struct Piece {
     /// The number of the part's symbol item.
     pub section: u32,
     /// Where the piece stands in the module, in bytes.

@@ -1,16 +1,17 @@
 //! Pieces as records.
-ghost use Rattle.std.specs.Prelude.{◌≡◌, ◌+◌, ◌<◌, ◌≤◌, ◌++◌, ◌==◌, if◌then◌else◌, [], ◌∷◌, All, length, map, IfOk, OnOk};
+ghost use Rattle.std.specs.Prelude.{◌≡◌, ◌+◌, ◌<◌, ◌≤◌, ◌++◌, ◌==◌, if◌then◌else◌, [], ◌∷◌, List, All, length, map, IfOk, OnOk};
 ghost use Rattle.load_recs.specs.Records.{ControlRecord, RldRecord, ControlRldRecord, record_of, rec_bytes, AreEnds, AreRlds};
 ghost use Rattle.member_model.specs.Facts.{nothing_ends};
-ghost use Rattle.member_model.specs.Pieces.{piece_records, records_or_empty};
+ghost use Rattle.member_model.specs.Pieces.{Piece as Seen, piece_records, records_or_empty};
 ghost use Rattle.segment_write.specs.Chunks.{IsChunk};
 ghost use Rattle.segment_write.specs.Pieces.{seen, IsPiece};
 ghost use Rattle.segment_write.specs.Records.{IsStored, text_records, chunk_records, but_last, last_of};
+ghost use Rattle.segment_write.specs.Writing.{IsReady, HasPieces};
 
 use crate::piece::Piece;
 use le_bytes::{Bytes, Items, Memory};
 use load_recs::{Ends, Rec, TextHead, write_rec};
-use std::alloc::Global;
+use std::alloc::{AllocError, Global};
 
 /// Neither a segment nor the module ends.
 const NOTHING: Ends = Ends {
@@ -18,50 +19,78 @@ const NOTHING: Ends = Ends {
     module: false,
 };
 
-/// The records of a segment that has these pieces: for each a control record and its text, which is
-/// not copied, and then its chunks. The last chunk joins the next control record. A segment without
-/// text is one record without items. `ends` is what ends with the last record.
-///
-/// # Errors
-/// Want of memory.
-pub fn segment_records(
-    alloc: Global,
-    pieces: Items<Piece>,
-    ends: Ends,
-) -> Result<Items<Bytes>, Memory>
-    requires pieces { All IsPiece (map seen pieces) }
-    requires ends { AreEnds ends }
-    ensures value { IfOk result (λ records. records ≡ map rec_bytes (records_or_empty ends (map seen pieces))) }
-    ensures sizes { IfOk result (All IsStored) }
-{
-    let mut rest = pieces.into_vec().into_iter();
-    let mut records = Records::new(alloc);
-    let Some(mut piece) = rest.next() else {
-        records.put_chunk(alloc, ends, &[])?;
-        return Ok(records.done);
-    };
-    while let Some(next) = rest.next() {
-        records.add(alloc, piece)?;
-        piece = next;
+/// The records of a segment that is being written piece by piece: for each a control record and its
+/// text, which is not copied, and then its chunks. The last chunk joins the next control record. The
+/// last piece is held back until it is known whether others follow.
+#[derive(Drop)]
+pub struct SegmentRecords {
+    records: Records,
+    held: Option<Piece>,
+}
+
+impl SegmentRecords {
+    /// No pieces yet, with memory for the records of so many that have few relocation items.
+    ///
+    /// # Errors
+    /// Want of memory.
+    pub fn new(alloc: Global, pieces: usize) -> Result<SegmentRecords, AllocError>
+        ensures none { IfOk result (λ records. HasPieces records []) }
+        ensures ready { IfOk result IsReady }
+    {
+        Ok(SegmentRecords {
+            records: Records::new(alloc, pieces)?,
+            held: None,
+        })
     }
-    records.end(alloc, piece, ends)
+
+    /// Puts a piece after those that are there.
+    pub(crate) fn put(&mut self, alloc: Global, piece: Piece) -> Result<(), Memory>
+        requires piece { IsPiece (seen piece) }
+        requires ready { IsReady self.old }
+        ensures pieces { OnOk result ((before : List Seen) → HasPieces self.old before → HasPieces self.new (before ++ seen piece ∷ [])) }
+        ensures ready { OnOk result (IsReady self.new) }
+    {
+        match self.held.replace(piece) {
+            Some(before) => self.records.add(alloc, before),
+            None => Ok(()),
+        }
+    }
+
+    /// The records of all pieces. A segment without text is one record without items. `ends` is what
+    /// ends with the last record.
+    ///
+    /// # Errors
+    /// Want of memory.
+    pub fn end(self, alloc: Global, ends: Ends) -> Result<Items<Bytes>, Memory>
+        requires ready { IsReady self }
+        requires ends { AreEnds ends }
+        ensures value { IfOk result (λ records. (pieces : List Seen) → HasPieces self pieces → records ≡ map rec_bytes (records_or_empty ends pieces)) }
+        ensures sizes { IfOk result (λ records. (pieces : List Seen) → HasPieces self pieces → All IsStored records) }
+    {
+        let SegmentRecords { records, held } = self;
+        match held {
+            Some(piece) => records.end(alloc, piece, ends),
+            None => records.empty(alloc, ends),
+        }
+    }
 }
 
 /// The records so far, and the chunk that joins the next control record.
 #[derive(Drop)]
-struct Records {
+pub(crate) struct Records {
     done: Items<Bytes>,
     carried: Bytes,
 }
 
 impl Records {
-    fn new(alloc: Global) -> Records
-        ensures { result ≡ record { done = []; carried = [] } }
+    /// No records, with memory for those of so many pieces that have few items.
+    fn new(alloc: Global, pieces: usize) -> Result<Records, AllocError>
+        ensures { IfOk result (λ records. records ≡ record { done = []; carried = [] }) }
     {
-        Records {
-            done: Items::new(alloc),
+        Ok(Records {
+            done: Items::from_vec(Vec::with_capacity(alloc, pieces.saturating_mul(2))?),
             carried: Bytes::new(alloc),
-        }
+        })
     }
 
     /// The records of a piece that others follow.
@@ -77,6 +106,15 @@ impl Records {
         let mut chunks = self.put_text(alloc, NOTHING, piece)?;
         self.carried = last_taken(alloc, &mut chunks);
         self.put_chunks(alloc, &chunks)
+    }
+
+    /// The records with one that has no items.
+    fn empty(mut self, alloc: Global, ends: Ends) -> Result<Items<Bytes>, Memory>
+        requires ends { AreEnds ends }
+        ensures { IfOk result (λ records. records ≡ self.done ++ rec_bytes (RldRecord ends []) ∷ []) }
+    {
+        self.put_chunk(alloc, ends, &[])?;
+        Ok(self.done)
     }
 
     /// The records with those of the last piece.

@@ -3,8 +3,7 @@ ghost use Rattle.std.specs.Prelude.{◌≡◌, ◌+◌, ◌^◌, ◌<◌};
 ghost use Rattle.segment_write.specs.Chunks.{IsItem};
 ghost use Rattle.segment_write.specs.Pieces.{last_byte};
 
-use crate::{PlacedPart, add_section, add_table, chunks, segment_records};
-use le_bytes::Items;
+use crate::{PlacedPart, SegmentRecords, add_section, add_table, chunks};
 use load_recs::{Ends, RldItem};
 use std::test::Fail;
 use text_store::WholeText;
@@ -37,14 +36,14 @@ fn numbers_are_said_once_in_a_chunk(rt: HostRuntime) -> Result<(), Fail> {
 
 #[test]
 fn pieces_become_records(rt: HostRuntime) -> Result<(), Fail> {
-    let mut pieces = Items::new(rt.alloc());
+    let mut records = SegmentRecords::new(rt.alloc(), 2)?;
     let table = PlacedPart {
         number: 1,
         address: 0,
         length: 6,
         items: &[address_constant(2)],
     };
-    add_table(rt.alloc(), &mut pieces, 4, table, &[1, 2, 3, 4, 5, 6])?;
+    add_table(rt.alloc(), &mut records, 4, table, &[1, 2, 3, 4, 5, 6])?;
     let section = PlacedPart {
         number: 2,
         address: 8,
@@ -52,12 +51,12 @@ fn pieces_become_records(rt: HostRuntime) -> Result<(), Fail> {
         items: &[],
     };
     let kept = WholeText::new(rt.alloc(), &[2])?;
-    add_section(rt.alloc(), &mut pieces, 4, section, &kept, 0)?;
+    add_section(rt.alloc(), &mut records, 4, section, &kept, 0)?;
     let ends = Ends {
         segment: true,
         module: true,
     };
-    let records = segment_records(rt.alloc(), pieces, ends)?;
+    let records = records.end(rt.alloc(), ends)?;
     let mut all = Vec::new(rt.alloc());
     for record in records.as_slice() {
         all.extend_from_slice(record.as_slice())?;

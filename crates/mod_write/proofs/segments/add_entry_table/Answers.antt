@@ -1,8 +1,8 @@
-use Rattle.std.proofs.Common.{◌≡◌, ◌≤◌, ◌++◌, length, map, sym, ap, subst, ◌∙◌, arith}
+use Rattle.std.proofs.Common.{◌≡◌, ◌≤◌, ◌++◌, length, sym, subst, ◌∙◌, arith}
 use Rattle.std.proofs.lemmas.Result.{on_ok_weaker}
 use Rattle.linking_model.specs.Linked.{address_of, block}
 use Rattle.linking_model.specs.TableBytes.{entab_bytes}
-use Rattle.segment_write.specs.Pieces.{seen as seen_piece}
+use Rattle.segment_write.specs.Writing.{HasPieces}
 use Rattle.relocate.specs.Listed.{table_of}
 use Rattle.relocate.specs.Ready.{AreSmall}
 use Rattle.relocate.proofs.Bounds.{are_small, few_entries}
@@ -25,14 +25,15 @@ entab_bytes-requires-clause-few g c =
     subst (λ entries. length (table_of entries c.args.segment) ≤ 340) (sym c.tables.ensures.tables)
     (few_entries c.args.from.now.list.now.entries c.args.segment c.requires.source.can.few)
 
-pub returns-clause-value : goal.returns-clause-value
-returns-clause-value g c =
+pub returns-clause-pieces : goal.returns-clause-pieces
+returns-clause-pieces g c =
     let P = c.args.from.now.list.now in
     let bytes : c.deref-2.result.now ≡ entab_bytes P (address_of P.program (block P 0)) c.args.segment = c.deref-2.ensures.value
     ∙ (refilled c.in_ok-bytes.bytes.len c.entab_bytes.new.out c.in_ok-bytes.bytes.items (omega (arith, c.entab_bytes.auto.out, c.deref_mut.ensures.len))
     ∙ table_written P c.args.from.now.places.now c.args.segment c.program.result.now c.tables.result.now.entries c.entab_bytes.new.out c.requires.source.can.sound
     c.requires.source.linked.placed.2 c.requires.source.linked.fit.entries c.program.ensures.program c.tables.ensures.tables (c.entab_bytes.ensures P.tree)) in
     on_ok_weaker c.add_table.result
-    (λ e. e ∙ ap (λ v. map seen_piece c.args.pieces.now ++ v)
-    (pieces_by c.args.from.now.piece _ _ _ _ _ _ _ _ c.placed-part.ensures.number c.placed-part.ensures.address c.placed-part.ensures.items bytes))
-    c.add_table.ensures.value
+    (λ more before has. subst (λ v. HasPieces c.add_table.new.records (before ++ v))
+    (pieces_by c.args.from.now.piece _ _ _ _ _ _ _ _ c.placed-part.ensures.number c.placed-part.ensures.address c.placed-part.ensures.items bytes)
+    (more before has))
+    c.add_table.ensures.pieces

@@ -1,8 +1,8 @@
-use Rattle.std.proofs.Common.{◌<◌, ◌++◌, length, map, sym, ap, subst, ◌∙◌}
+use Rattle.std.proofs.Common.{◌<◌, ◌++◌, length, sym, ap, subst, ◌∙◌}
 use Rattle.std.proofs.lemmas.Result.{on_ok_weaker}
 use Rattle.linking_model.specs.Linked.{block}
 use Rattle.member_model.specs.Chunks.{part_items, section_items}
-use Rattle.segment_write.specs.Pieces.{seen as seen_piece}
+use Rattle.segment_write.specs.Writing.{HasPieces}
 use Rattle.mod_write.proofs.Gathered.{list_of_section, lists_counted}
 use Rattle.mod_write.proofs.Assembled.{section_long, section_text, pieces_by, text_pieces}
 use Rattle.mod_write.proofs.segments.add_text.Goals as goal
@@ -33,10 +33,11 @@ returns-in-Sd g c =
     let i = c.args.section in
     let text = section_text P (block P 0) (g.K.TextKeeper.content c.args.from.now.kept.now) i c.requires.source.linked.text c.requires.there in
     record {
-      value = on_ok_weaker c.add_section.result
-          (λ e. e ∙ ap (λ v. map seen_piece c.args.pieces.now ++ v)
+      pieces = on_ok_weaker c.add_section.result
+          (λ more before has. subst (λ v. HasPieces c.add_section.new.records (before ++ v))
           (pieces_by c.args.from.now.piece _ _ _ _ _ _ _ _ c.placed-part.ensures.number c.placed-part.ensures.address c.placed-part.ensures.items text
-          ∙ text_pieces P i c.kind_of.result _ c.kind_of.ensures c.in-Sd.is))
-          c.add_section.ensures.value;
+          ∙ text_pieces P i c.kind_of.result _ c.kind_of.ensures c.in-Sd.is)
+          (more before has))
+          c.add_section.ensures.pieces;
       ready = c.add_section.ensures.ready;
     }

@@ -1,7 +1,6 @@
-use Rattle.std.proofs.Common.{◌≡◌, ◌∷◌, ◌++◌, List, ℕ, All, map, sym, ◌∙◌, subst}
-use Rattle.member_model.specs.Chunks.{chunks, chunk_bytes}
+use Rattle.std.proofs.Common.{All, sym, ◌∙◌, subst}
 use Rattle.segment_write.specs.Chunks.{IsChunk}
-use Rattle.segment_write.proofs.Filled.{filled, all_closed}
+use Rattle.segment_write.proofs.Filled.{all_closed}
 use Rattle.segment_write.proofs.Held.{held}
 use Rattle.segment_write.proofs.chunking.filled.Goals as goal
 

@@ -1,4 +1,4 @@
-use Rattle.std.proofs.Common.{◌≡◌, ◌++◌, ◌≤◌, drop, length}
+use Rattle.std.proofs.Common.{◌≡◌, ◌++◌, ◌≤◌, drop}
 use Rattle.segment_write.specs.Chunks.{IsItem, begun, size, chunks_from}
 use Rattle.segment_write.proofs.chunking.filled.Given as goal
 
