@@ -13,7 +13,7 @@ use esd_index::Index;
 use le_bytes::Items;
 use std::alloc::{AllocError, Global};
 use sym_mod::{
-    Constant, Frag, StartAt, SymConst, SymEntry, SymTarget, SymTerm, Target, Term, Text,
+    Constant, Frag, StartAt, SymConst, SymEntry, SymTarget, SymTerm, Target, Term, Terms, Text,
 };
 
 /// What the items of a module are in a program: for each the number of the section in which it is
@@ -103,11 +103,11 @@ impl ItemTable {
         index: &Index,
         meanings: &Meanings,
         terms: &[SymTerm],
-    ) -> Result<Items<Term>, AllocError>
+    ) -> Result<Terms<Term>, AllocError>
         requires { IsSmall (now_of index.now) }
         ensures { IfOk result (λ list. list ≡ map (term_in (now_of index.now) (get name_eq meanings.now.labels) (get name_eq meanings.now.unknowns) self.now.targets.items) terms.now) }
     {
-        let mut list = Items::from_vec(Vec::with_capacity(alloc, terms.len())?);
+        let mut list = Terms::new(alloc);
         for t in terms {
             list.push(Term {
                 minus: t.minus,

@@ -14,7 +14,7 @@ use le_bytes::Items;
 use obj_cards::CardRld;
 use std::alloc::{AllocError, Global};
 use std::collections::HashMap;
-use sym_mod::{Kind, SymConst, SymTarget, SymTerm};
+use sym_mod::{Kind, SymConst, SymTarget, SymTerm, Terms};
 
 /// The constants of the terms so far, and the number of each by its place.
 #[derive(Drop)]
@@ -111,17 +111,17 @@ fn terms_at(
     items: &Dictionary,
     terms: &[CardRld],
     f: &CardRld,
-) -> Result<Items<SymTerm>, AllocError>
+) -> Result<Terms<SymTerm>, AllocError>
     requires { length items.now < 2 ^ 32 }
     ensures { IfOk result (λ made. made ≡ map (term items.now) (filter (same_place f.now) terms.now)) }
 {
-    let mut made = Vec::with_capacity(alloc, 1)?;
+    let mut made = Terms::new(alloc);
     for g in terms {
         if is_same_place(f, g) {
             made.push(term(items, g))?;
         }
     }
-    Ok(Items::from_vec(made))
+    Ok(made)
 }
 
 /// The constants of terms however many: the constant of each place is found by a map.
@@ -199,13 +199,13 @@ fn alone(alloc: Global, items: &Dictionary, f: &CardRld) -> Result<SymConst, All
     requires { length items.now < 2 ^ 32 }
     ensures { IfOk result (λ made. made ≡ constant items.now (f.now ∷ []) f.now) }
 {
-    let mut terms = Items::new(alloc);
+    let mut terms = Terms::new(alloc);
     terms.push(term(items, f))?;
     Ok(constant_of(items, f, terms))
 }
 
 /// The constant at the place of `f` with the terms that are given.
-fn constant_of(items: &Dictionary, f: &CardRld, terms: Items<SymTerm>) -> SymConst
+fn constant_of(items: &Dictionary, f: &CardRld, terms: Terms<SymTerm>) -> SymConst
     requires { length items.now < 2 ^ 32 }
     ensures { result ≡ record (constant items.now [] f.now) { terms = terms } }
 {

@@ -6,6 +6,7 @@ mod edits;
 mod module;
 mod program;
 mod reserved;
+mod terms;
 
 pub use edits::Edit;
 pub use module::{Frag, Item, ItemKind, Kind, SymConst, SymEntry, SymModule, SymTarget, SymTerm};
@@ -14,3 +15,4 @@ pub use program::{
     Text, Unknown,
 };
 pub use reserved::{ENTRY_TABLE, SEGMENT_TABLE, is_reserved};
+pub use terms::Terms;

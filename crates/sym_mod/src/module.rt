@@ -1,4 +1,5 @@
 //! One module as it was read, by its symbols.
+use crate::terms::Terms;
 use le_bytes::{Bytes, Items, Name};
 use std::alloc::Global;
 
@@ -90,16 +91,17 @@ pub enum Kind {
 
 /// What a term of a constant refers to: the item of a number, a name, a register by its name, or
 /// all registers.
-#[derive(Clone, Copy, Debug, PartialEq, Eq)]
+#[derive(Clone, Copy, Debug, Default, PartialEq, Eq)]
 pub enum SymTarget {
     Own(u32),
     Named(Name),
     Register(Name),
+    #[default]
     Total,
 }
 
 /// A signed part of a constant.
-#[derive(Clone, Copy, Debug, PartialEq, Eq)]
+#[derive(Clone, Copy, Debug, Default, PartialEq, Eq)]
 pub struct SymTerm {
     pub minus: bool,
     pub target: SymTarget,
@@ -115,7 +117,7 @@ pub struct SymConst {
     pub offset: u32,
     pub length: u8,
     pub kind: Kind,
-    pub terms: Items<SymTerm>,
+    pub terms: Terms<SymTerm>,
 }
 
 /// Where a module asks to be entered: nowhere, at an offset in an item, or at a name.

@@ -1,5 +1,6 @@
 //! A program as it was merged from modules, by its symbols.
 use crate::module::Kind;
+use crate::terms::Terms;
 use le_bytes::{Bytes, Items, Name};
 
 /// What a section of a program is: named, private or common.
@@ -54,17 +55,18 @@ pub struct Register {
 
 /// What a term of a constant refers to: a section, a label, an unresolved name or a register by
 /// its number, or all registers.
-#[derive(Clone, Copy, Debug, PartialEq, Eq)]
+#[derive(Clone, Copy, Debug, Default, PartialEq, Eq)]
 pub enum Target {
     Section(u32),
     Label(u32),
     Unresolved(u32),
     Register(u32),
+    #[default]
     Total,
 }
 
 /// A signed part of a constant.
-#[derive(Clone, Copy, Debug, PartialEq, Eq)]
+#[derive(Clone, Copy, Debug, Default, PartialEq, Eq)]
 pub struct Term {
     pub minus: bool,
     pub target: Target,
@@ -80,7 +82,7 @@ pub struct Constant {
     pub offset: u32,
     pub length: u8,
     pub kind: Kind,
-    pub terms: Items<Term>,
+    pub terms: Terms<Term>,
 }
 
 /// Text that stands from `offset` of a section on.
