@@ -29,24 +29,25 @@ pub fn made(alloc: Global, facts: &Facts, start: &EndStart) -> Result<SymModule,
     })
 }
 
-/// The number of the item with an ESDID, 0 if there is none.
-pub fn number_or(items: &Dictionary, esdid: u32) -> u32
-    requires { length items.now < 2 ^ 32 }
-    ensures { result ≡ number_or items.now esdid }
-{
-    match items.number(esdid) {
-        Some(number) => number as u32,
-        None => 0,
-    }
+/// The number of an item and its assembled address.
+#[derive(Clone, Copy)]
+pub struct Origin {
+    pub number: u32,
+    pub base: u32,
 }
 
-/// Its assembled address, 0 if there is none.
-pub fn base_of(items: &Dictionary, esdid: u32) -> u32
-    ensures { result ≡ base_of items.now esdid }
+/// Those of the item with an ESDID, both 0 if there is none.
+pub fn origin_of(items: &Dictionary, esdid: u32) -> Origin
+    requires { length items.now < 2 ^ 32 }
+    ensures number { result.number ≡ number_or items.now esdid }
+    ensures base { result.base ≡ base_of items.now esdid }
 {
     match items.find(esdid) {
-        Some(found) => found.item.item.address,
-        None => 0,
+        Some(found) => Origin {
+            number: found.number as u32,
+            base: found.item.item.address,
+        },
+        None => Origin { number: 0, base: 0 },
     }
 }
 
@@ -105,7 +106,7 @@ fn owner_for(items: &Dictionary, x: &EsdItem) -> u32
     ensures { result ≡ owner_for items.now x.now x.now.kind }
 {
     match x.kind {
-        EsdKind::Ld => number_or(items, x.length),
+        EsdKind::Ld => origin_of(items, x.length).number,
         _ => 0,
     }
 }
@@ -138,9 +139,10 @@ fn fragment(alloc: Global, items: &Dictionary, t: &TxtCard) -> Result<Frag, Allo
     requires { length items.now < 2 ^ 32 }
     ensures { IfOk result (λ made. made ≡ fragment items.now t.now) }
 {
+    let section = origin_of(items, t.esdid);
     Ok(Frag {
-        item: number_or(items, t.esdid),
-        offset: t.address.saturating_sub(base_of(items, t.esdid)),
+        item: section.number,
+        offset: t.address.saturating_sub(section.base),
         bytes: Bytes::from_slice(alloc, used(t))?,
     })
 }
@@ -158,10 +160,10 @@ fn entry(items: &Dictionary, start: &EndStart) -> SymEntry
 {
     match start {
         EndStart::None => SymEntry::None,
-        EndStart::At(address, esdid) => SymEntry::At(
-            number_or(items, *esdid),
-            address.saturating_sub(base_of(items, *esdid)),
-        ),
+        EndStart::At(address, esdid) => {
+            let section = origin_of(items, *esdid);
+            SymEntry::At(section.number, address.saturating_sub(section.base))
+        }
         EndStart::Named(name) => SymEntry::Named(*name),
     }
 }

@@ -5,7 +5,7 @@ ghost use Rattle.obj_read.specs.Flags.{kind_of_flag};
 ghost use Rattle.obj_read.specs.Module.{same_place, term, target_of, base_for, constant, leaders, constants};
 ghost use Rattle.obj_read.specs.Placed.{IsGathered, IsJoined, HasNumber};
 
-use crate::building::{base_of, number_or};
+use crate::building::origin_of;
 use crate::dictionary::Dictionary;
 use crate::few::FEW;
 use crate::flags::{is_minus, kind_of, length_of};
@@ -209,9 +209,10 @@ fn constant_of(items: &Dictionary, f: &CardRld, terms: Terms<SymTerm>) -> SymCon
     requires { length items.now < 2 ^ 32 }
     ensures { result ≡ record (constant items.now [] f.now) { terms = terms } }
 {
+    let section = origin_of(items, f.p);
     SymConst {
-        item: number_or(items, f.p),
-        offset: f.address.saturating_sub(base_of(items, f.p)),
+        item: section.number,
+        offset: f.address.saturating_sub(section.base),
         length: length_of(f),
         kind: kind_of(f),
         terms,
@@ -237,32 +238,28 @@ fn term(items: &Dictionary, f: &CardRld) -> SymTerm
     requires { length items.now < 2 ^ 32 }
     ensures { result ≡ term items.now f.now }
 {
+    let (target, base) = target_of(items, f);
     SymTerm {
         minus: is_minus(f),
-        target: target_of(items, f),
-        base: base_for(items, f),
+        target,
+        base,
     }
 }
 
-fn target_of(items: &Dictionary, f: &CardRld) -> SymTarget
+/// What a term refers to, and the target's assembled address.
+fn target_of(items: &Dictionary, f: &CardRld) -> (SymTarget, u32)
     requires { length items.now < 2 ^ 32 }
-    ensures { result ≡ target_of items.now f.now (kind_of_flag f.now.flag) }
+    ensures { result ≡ (target_of items.now f.now (kind_of_flag f.now.flag), base_for items.now f.now (kind_of_flag f.now.flag)) }
 {
     match kind_of(f) {
-        Kind::Address | Kind::Branch => SymTarget::Own(number_or(items, f.r)),
+        Kind::Address | Kind::Branch => {
+            let target = origin_of(items, f.r);
+            (SymTarget::Own(target.number), target.base)
+        }
         Kind::Displacement => match items.find(f.r) {
-            Some(found) => SymTarget::Register(found.item.item.name),
-            None => SymTarget::Total,
+            Some(found) => (SymTarget::Register(found.item.item.name), 0),
+            None => (SymTarget::Total, 0),
         },
-        Kind::Total => SymTarget::Total,
-    }
-}
-
-fn base_for(items: &Dictionary, f: &CardRld) -> u32
-    ensures { result ≡ base_for items.now f.now (kind_of_flag f.now.flag) }
-{
-    match kind_of(f) {
-        Kind::Address | Kind::Branch => base_of(items, f.r),
-        _ => 0,
+        Kind::Total => (SymTarget::Total, 0),
     }
 }

@@ -1,5 +1,6 @@
 //! The items of a deck, found by their ESDID.
-ghost use Rattle.std.specs.Prelude.{◌≡◌, ◌+◌, ◌<◌, ◌^◌, ◌++◌, ◌∷◌, [], length, slice_get, Some, IfOk, OnOk, IfSome};
+ghost use Rattle.std.specs.Prelude.{nat_eq, ◌≡◌, ◌+◌, ◌<◌, ◌^◌, ◌++◌, ◌∷◌, [], length, slice_get, Some, IfOk, OnOk, IfSome};
+ghost use Rattle.std.specs.HashMap.{get};
 ghost use Rattle.std.specs.List.{list_any};
 ghost use Rattle.obj_read.specs.Facts.{has_esdid, number_of};
 ghost use Rattle.obj_read.specs.Module.{lacks_length, with_length};
@@ -93,19 +94,22 @@ impl Dictionary {
     }
 
     /// The place of the item, no label, with an ESDID.
+    #[inline]
     pub fn number(&self, esdid: u32) -> Option<usize>
         ensures number { result ≡ number_of esdid self.now }
         ensures within { IfSome result (λ number. number < length self.now) }
     {
         match &self.places {
-            Some(places) => places.get(&esdid).copied(),
+            Some(places) => place_in(places, esdid),
             None => number_of(self.items.as_slice(), esdid),
         }
     }
 
     /// The item, no label, with an ESDID, and its place.
+    #[inline]
     pub fn find(&self, esdid: u32) -> Option<Found>
-        ensures { IsFound self.now esdid result }
+        ensures found { IsFound self.now esdid result }
+        ensures within { IfSome result (λ found. found.number < length self.now) }
     {
         match self.number(esdid) {
             Some(number) => Some(self.at(number)),
@@ -163,6 +167,14 @@ fn has_esdid(x: &Numbered, esdid: u32) -> bool
     ensures { result ≡ has_esdid esdid x.now }
 {
     !is_label(x.item.kind) && x.esdid == esdid
+}
+
+/// The place that a map has. It stays a call, so that looking few items through is put in line.
+#[inline(never)]
+fn place_in(places: &HashMap<u32, usize>, esdid: u32) -> Option<usize>
+    ensures { result ≡ get nat_eq places.now esdid }
+{
+    places.get(&esdid).copied()
 }
 
 /// The map of the items.
