@@ -11,6 +11,8 @@ pub mod Brought
 pub mod ItemTables
 pub mod Walking
 pub mod Small
+pub mod Places
+pub mod Controls
 pub mod Whole
 pub mod Defining
 pub mod Homes

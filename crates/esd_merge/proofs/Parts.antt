@@ -1,26 +1,26 @@
 -- The lists of a program are those of its definition.
 use Rattle.std.proofs.Common.{◌≡◌, ℕ, max, Bool, true, false, ◌&&◌, cond, List, [], ◌∷◌, ◌++◌, map, fold, slice_get, Option, Some, None, unwrap_or, option_map, is_some, refl, sym, ap, ◌∙◌, arith, append-nil, append_assoc, filter, filter_map}
 use Rattle.std.specs.Prelude.{position}
-use Rattle.std.specs.List.{find, cons_option}
+use Rattle.std.specs.List.{cons_option}
 use Rattle.std.specs.Option.{option_or, option_and_then, option_map_or}
 use Rattle.std.proofs.lemmas.Option.{slice_get-map}
 use Rattle.le_bytes.specs.declared.name.Name.{Name}
 use Rattle.le_bytes.specs.Names.{name_eq}
 use Rattle.sym_mod.specs.declared.program.Label.{Label}
 use Rattle.sym_mod.specs.declared.program.Register.{Register}
-use Rattle.sym_mod.specs.Kinds.{kind_of, is_register}
+use Rattle.sym_mod.specs.Kinds.{kind_of, is_sd, is_register}
 use Rattle.linking_model.specs.Names.{firsts}
-use Rattle.linking_model.specs.Kept.{Read, Sight, Symbol, ByName, Private, symbol_eq, sights, sight_at, is_sd_named, is_area_named, kept_sd, areas, kept_as, section_symbol, section_symbols, section_number, kept_in, appearance, rank_of}
+use Rattle.linking_model.specs.Kept.{Read, Sight, Symbol, ByName, Private, symbol_eq, sights, sight_at, is_area_named, kept_sd, areas, kept_as, section_symbol, section_symbols, section_number, kept_in, appearance, rank_of}
 use Rattle.linking_model.specs.Merged.{greatest_length, named_section, private_section, section_of, sections, label_at, is_label_named, label_of, labels, register_items, register_of, registers}
 use Rattle.esd_index.specs.Contents.{Contents}
-use Rattle.esd_index.specs.Steps.{flag_at}
+use Rattle.esd_index.specs.Steps.{flag_at, named_if}
 use Rattle.esd_merge.specs.declared.by_name.Area.{Area}
 use Rattle.esd_merge.specs.declared.by_name.Extent.{Extent}
 use Rattle.esd_merge.specs.declared.reading.Reading.{Reading}
 use Rattle.esd_merge.specs.Indexed.{content_of}
 use Rattle.esd_merge.specs.Held.{as_read, AreMarked, is_marked_in}
 use Rattle.esd_merge.specs.Looked.{rank_by, seen_by, home_by}
-use Rattle.esd_merge.specs.Gathered.{no_area, extent_in, label_by, label_step, control_step, area_step, extent_step}
+use Rattle.esd_merge.specs.Gathered.{no_area, extent_in, label_by, label_step, area_step, extent_step}
 use Rattle.esd_merge.specs.Listed.{pushed, at_name, named_by, private_by, section_by, register_by, home_at}
 use Rattle.esd_merge.specs.Whole.{Holds}
 use Rattle.esd_merge.proofs.Sights.{sight_at_is}
@@ -96,6 +96,10 @@ pub symbols_is : (rs : List Read) (c : Contents) → c ≡ content_of rs → c.s
 unfolding content_of
 symbols_is rs c e = rw e refl
 
+pub controls_is : (rs : List Read) (c : Contents) → c ≡ content_of rs → c.controls ≡ firsts symbol_eq (filter_map (λ (x : Sight). named_if is_sd x.item) (sights rs))
+unfolding content_of
+controls_is rs c e = rw e refl
+
 pub home_is : (c : Contents) (xs : List Reading) → Holds c xs → (k i : ℕ) → home_by c xs k i ≡ kept_in (map as_read xs) k i
 unfolding home_by
 home_is c xs h k i =
@@ -138,19 +142,6 @@ filter_chosen p g (x ∷ xs) = chosen p g x xs (p x) (filter_chosen p g xs)
         → cons_option (cond b (g x) None) (filter_map (λ x. cond (p x) (g x) None) xs) ≡ filter_map g (cond b (x ∷ filter p xs) (filter p xs))
     chosen p g x xs true more = ap (cons_option (g x)) more
     chosen p g x xs false more = more
-
-find_first : {A : Type 0} (p : A → Bool) (xs : List A) → slice_get (filter_map (λ x. cond (p x) (Some x) None) xs) 0 ≡ find p xs
-find_first p [] = refl
-find_first p (x ∷ xs) = chosen p x xs (p x) (find_first p xs)
-  where
-    chosen : {A : Type 0} (p : A → Bool) (x : A) (xs : List A) (b : Bool) → slice_get (filter_map (λ x. cond (p x) (Some x) None) xs) 0 ≡ find p xs
-        → slice_get (cons_option (cond b (Some x) None) (filter_map (λ x. cond (p x) (Some x) None) xs)) 0 ≡ cond b (Some x) (find p xs)
-    chosen p x xs true more = refl
-    chosen p x xs false more = more
-
-pub controls_are : (y : Name) (xs : List Sight) → fold (control_step y) None xs ≡ find (is_sd_named y) xs
-unfolding control_step
-controls_are y xs = first_fold (λ x. cond (is_sd_named y x) (Some x) None) None xs ∙ find_first (is_sd_named y) xs
 
 fold_filter : {A B : Type 0} (p : A → Bool) (g : B → A → B) (b : B) (xs : List A) → fold (λ b x. cond (p x) (g b x) b) b xs ≡ fold g b (filter p xs)
 fold_filter p g b [] = refl
@@ -197,18 +188,17 @@ private_is rs c y None e = refl
 private_is rs c y (Some x) e = rw (rank_is rs c y e) refl
 
 section_is : (c : Contents) (xs : List Reading) (controls : Name → Option Sight) (areas_at : Name → Area) → Holds c xs
-    → ((y : Name) → controls y ≡ fold (control_step y) None (sights (map as_read xs))) → ((y : Name) → areas_at y ≡ fold (area_step y) no_area (sights (map as_read xs)))
+    → ((y : Name) → controls y ≡ kept_sd (map as_read xs) y) → ((y : Name) → areas_at y ≡ fold (area_step y) no_area (sights (map as_read xs)))
     → (y : Symbol) → section_by c xs controls areas_at y ≡ section_of (map as_read xs) y
 section_is c xs controls areas_at h first gathered (ByName y) =
     let rs : List Read = map as_read xs in
-    let control : controls y ≡ kept_sd rs y = first y ∙ controls_are y (sights rs) in
     let area : areas_at y ≡ record { users = map (λ x. x.segment) (areas rs y); length = greatest_length (areas rs y) } = gathered y ∙ area_is y (sights rs) in
-    ap Some (rw (control, area) (named_is rs c y (kept_sd rs y) h.indexed))
+    ap Some (rw (first y, area) (named_is rs c y (kept_sd rs y) h.indexed))
 section_is c xs controls areas_at h first gathered (Private k i) =
     ap (option_map (private_by c (Private k i))) (seen_is xs k i) ∙ private_is (map as_read xs) c (Private k i) (sight_at (map as_read xs) k i) h.indexed
 
 pub sections_are : (c : Contents) (xs : List Reading) (controls : Name → Option Sight) (areas_at : Name → Area) → Holds c xs
-    → ((y : Name) → controls y ≡ fold (control_step y) None (sights (map as_read xs))) → ((y : Name) → areas_at y ≡ fold (area_step y) no_area (sights (map as_read xs)))
+    → ((y : Name) → controls y ≡ kept_sd (map as_read xs) y) → ((y : Name) → areas_at y ≡ fold (area_step y) no_area (sights (map as_read xs)))
     → fold (λ xs_ y. pushed xs_ (section_by c xs controls areas_at y)) [] c.sections ≡ sections (map as_read xs)
 sections_are c xs controls areas_at h first gathered =
     listed (section_by c xs controls areas_at) (section_of (map as_read xs)) (section_is c xs controls areas_at h first gathered) c.sections

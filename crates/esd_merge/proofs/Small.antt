@@ -1,6 +1,6 @@
 -- Modules without a fault have few symbols.
-use Rattle.std.proofs.Common.{◌≡◌, ℕ, ◌+◌, ◌≤◌, Bool, true, false, ◌||◌, nat_lt, cond, List, [], ◌∷◌, ◌++◌, length, fold, Option, Some, None, refl, sym, ap, ◌∙◌, subst, arith, filter_map}
-use Rattle.std.specs.List.{list_any, cons_option, IsDistinct}
+use Rattle.std.proofs.Common.{◌≡◌, ℕ, ◌+◌, ◌≤◌, Bool, true, false, ◌||◌, nat_lt, cond, List, [], ◌∷◌, ◌++◌, length, fold, Option, Some, None, refl, sym, ap, ◌∙◌, subst, arith, filter_map, flat_map}
+use Rattle.std.specs.List.{list_any, cons_option, enumerate_from, IsDistinct}
 use Rattle.std.specs.Cmp.{IsEquivalence}
 use Rattle.std.proofs.lemmas.Bool.Decides.{nat_tests}
 use Rattle.std.proofs.lemmas.Map.Keys.{IsDistinct-push}
@@ -8,15 +8,16 @@ use Rattle.std.proofs.lemmas.Map.Made.{length-le_from_is_member}
 use Rattle.le_bytes.specs.declared.name.Name.{Name}
 use Rattle.sym_mod.specs.declared.module.ItemKind.{ItemKind}
 use Rattle.sym_mod.specs.declared.module.ItemKind.TheVariants.{Sd, Pc, Cm, Label as LabelItem, Er, Wx, Register}
-use Rattle.sym_mod.specs.Kinds.{kind_of}
+use Rattle.sym_mod.specs.Kinds.{kind_of, is_sd}
 use Rattle.linking_model.specs.Names.{with_first, firsts}
-use Rattle.linking_model.specs.Kept.{Read, Sight, Symbol, ByName, Private, symbol_eq, sights, symbol_for, symbol_of, section_symbol_for, section_symbol, section_symbols, appearance}
+use Rattle.linking_model.specs.Kept.{Read, Sight, Symbol, ByName, Private, symbol_eq, sights, symbol_for, symbol_of, section_symbol_for, section_symbol, section_symbols, seen_in, appearance}
 use Rattle.linking_model.specs.Merged.{double_definition, label_of, labels, unknown_of, unresolved, registers, symbol_count}
 use Rattle.esd_index.specs.Contents.{Contents}
+use Rattle.esd_index.specs.Steps.{named_if}
 use Rattle.esd_merge.specs.declared.fault.MergeFault.TheVariants.{TooManySymbols}
 use Rattle.esd_merge.specs.Added.{merge_fault, IsMerged}
 use Rattle.esd_merge.specs.Indexed.{content_of}
-use Rattle.esd_merge.specs.Looked.{IsSmall}
+use Rattle.esd_merge.specs.Looked.{IsNumbered}
 use Rattle.esd_merge.proofs.Firsts.{name_sym, symbol_refl, symbol_same, any_firsts}
 use Rattle.esd_merge.proofs.Joining.{count_is}
 use Rattle.esd_merge.proofs.Unknowns.{appears}
@@ -115,10 +116,17 @@ pub unresolved_few : (rs : List Read) → IsMerged rs → length (unresolved rs)
 unfolding unresolved
 unresolved_few rs m = omega (arith, few rs m, filter_map_short (unknown_of rs) (appearance rs))
 
-pub is_small : (rs : List Read) (c : Contents) → IsMerged rs → c ≡ content_of rs → IsSmall c
+appearance_distinct : (rs : List Read) → IsDistinct symbol_eq (appearance rs)
+unfolding appearance
+appearance_distinct rs = firsts_distinct (flat_map (seen_in rs) (enumerate_from 0 rs))
+
+pub is_small : (rs : List Read) (c : Contents) → IsMerged rs → c ≡ content_of rs → IsNumbered c
 unfolding content_of symbol_count
-is_small rs c m is = subst IsSmall (sym is) (record {
+is_small rs c m is = subst IsNumbered (sym is) (record {
   symbols = omega (arith, few rs m);
   sections = omega (arith, few rs m, sections_few rs);
   registers = omega (arith, few rs m, count_is rs);
+  symbols_apart = appearance_distinct rs;
+  sections_apart = firsts_distinct (filter_map section_symbol (sights rs));
+  controls_apart = firsts_distinct (filter_map (λ x. named_if is_sd x.item) (sights rs));
 })

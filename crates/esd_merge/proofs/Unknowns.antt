@@ -19,6 +19,9 @@ use Rattle.sym_mod.specs.declared.program.Label.{Label}
 use Rattle.sym_mod.specs.Kinds.{kind_of, is_er, is_wx, is_label}
 use Rattle.linking_model.specs.Kept.{Read, Sight, Symbol, ByName, Private, symbol_eq, sights, section_symbols, section_number, kept_in, kept_constants, name_in, appearance, symbol_for, symbol_of, seen_in, sights_in, sights_from}
 use Rattle.linking_model.specs.Merged.{label_at, is_label_named, label_of, labels, definition, is_kept_label, has_item, is_referred, is_name_target, is_label_target, is_referenced, is_weak, unknown_of, unresolved}
+use Rattle.esd_index.specs.declared.key.Key.{Key}
+use Rattle.esd_index.specs.declared.key.Key.TheVariants.{Named as NamedKey}
+use Rattle.esd_index.specs.Keys.{as_symbol}
 use Rattle.esd_index.specs.Contents.{Contents}
 use Rattle.esd_index.specs.Steps.{named_if, label_meant}
 use Rattle.esd_merge.specs.declared.reading.Reading.{Reading}
@@ -386,3 +389,21 @@ unknowns_are c xs h =
 pub unknown_list : (rs : List Read) (c : Contents) → c ≡ content_of rs → filter_map (unknown_by c) c.symbols ≡ unresolved rs
 unfolding unresolved
 unknown_list rs c is = rw is (filter_map_ext (unknown_by (content_of rs)) (unknown_of rs) (unknown_is rs) (content_of rs).symbols ∙ ap (filter_map (unknown_of rs)) (symbols_of rs))
+
+-- ---- sections are no unresolved names
+
+and_false : (b : Bool) → (b && false) ≡ false
+and_false true = refl
+and_false false = refl
+
+pub section_known : (c : Contents) (s : Symbol) (k : ℕ) → Some k ≡ position (symbol_eq s) c.sections → None ≡ unknown_by c s
+unfolding unknown_by
+section_known c (ByName y) k e =
+    let there : has c.sections y ≡ true = sym (position_found (symbol_eq (ByName y)) c.sections) ∙ ap is_some (sym e) in
+    rw (there, and_false (is_referenced_by c y)) refl
+section_known c (Private m n) k e = refl
+
+pub section_missed : (ys : List Symbol) (key : Key) (y : Name) → key ≡ NamedKey y → None ≡ position (symbol_eq (as_symbol key)) ys → has ys y ≡ false
+section_missed ys key y named e =
+    let same : None ≡ position (symbol_eq (ByName y)) ys = subst (λ (k : Key). None ≡ position (symbol_eq (as_symbol k)) ys) named e in
+    sym (position_found (symbol_eq (ByName y)) ys) ∙ ap is_some (sym same)

@@ -1,17 +1,17 @@
 -- What is gathered by name from the items.
-use Rattle.std.specs.Prelude.{ℕ, ◌-◌, max, ◌&&◌, if◌then◌else◌, List, [], ◌∷◌, ◌++◌, Option, Some, None, unwrap_or, option_map}
+use Rattle.std.specs.Prelude.{ℕ, ◌-◌, max, ◌&&◌, if◌then◌else◌, List, [], ◌∷◌, ◌++◌, length, position, slice_get, Option, Some, None, unwrap_or, option_map, option_and_then}
 use Rattle.std.specs.Option.{option_or, option_map_or}
 use Rattle.le_bytes.specs.declared.name.Name.{Name}
 use Rattle.le_bytes.specs.Names.{name_eq}
-use Rattle.sym_mod.specs.Kinds.{is_register}
+use Rattle.sym_mod.specs.Kinds.{kind_of, is_sd, is_register}
 use Rattle.sym_mod.specs.declared.program.Label.{Label}
-use Rattle.linking_model.specs.Kept.{Sight, ByName, is_sd_named, is_area_named}
+use Rattle.linking_model.specs.Kept.{Sight, Symbol, ByName, symbol_eq, is_area_named}
 use Rattle.linking_model.specs.Merged.{is_label_named}
 use Rattle.esd_index.specs.Contents.{Contents}
 use Rattle.esd_merge.specs.declared.by_name.Area.{Area}
 use Rattle.esd_merge.specs.declared.by_name.Extent.{Extent}
 use Rattle.esd_merge.specs.declared.reading.Reading.{Reading}
-use Rattle.esd_merge.specs.Looked.{rank_by, seen_by, home_by}
+use Rattle.esd_merge.specs.Looked.{rank_by, seen_by, home_by, stands_at}
 
 -- what stands at y after v was put at n
 abbrev pub put_in : {V : Type 0} → Name → V → Name → Option V → Option V
@@ -40,15 +40,19 @@ label_by c xs x =
     (λ i. record { name = x.item.name; rank = rank_by c (ByName x.item.name); section = i; offset = x.item.base - base_of (seen_by xs x.of_module x.item.owner) })
     (home_by c xs x.of_module x.item.owner)
 
+-- the first SD item of a name, by the place of the name among the names of SD items
+abbrev pub control_at : List Symbol → List Sight → Name → Option Sight
+control_at names xs y = option_and_then (λ k. slice_get xs k) (position (symbol_eq (ByName y)) names)
+
 -- ---- one item more
 
 -- the first kept label of a name
 unfoldable pub label_step : Contents → List Reading → Name → Option Label → Sight → Option Label
 label_step c xs y o x = option_or o (if is_label_named y x then label_by c xs x else None)
 
--- the first SD item of a name
-unfoldable pub control_step : Name → Option Sight → Sight → Option Sight
-control_step y o x = option_or o (if is_sd_named y x then Some x else None)
+-- the list of first SD items, and x at its end where its name stands next among the names of SD items
+unfoldable pub control_listed : List Symbol → List Sight → Sight → List Sight
+control_listed names xs x = if is_sd (kind_of x.item) && stands_at names (length xs) (ByName x.item.name) then xs ++ x ∷ [] else xs
 
 -- the CM items of a name
 unfoldable pub area_step : Name → Area → Sight → Area

@@ -1,15 +1,24 @@
 -- What the index and the modules that were read say of an item.
-use Rattle.std.specs.Prelude.{ℕ, ◌≤◌, if◌then◌else◌, List, length, position, slice_get, Option, None, unwrap_or, option_map, option_and_then}
+use Rattle.std.specs.Prelude.{ℕ, ◌≤◌, Bool, false, if◌then◌else◌, List, length, position, slice_get, Option, None, unwrap_or, option_map, option_and_then}
+use Rattle.std.specs.List.{IsDistinct}
+use Rattle.std.specs.Option.{option_map_or}
 use Rattle.linking_model.specs.Kept.{Sight, Symbol, symbol_eq, section_symbol}
 use Rattle.esd_index.specs.Contents.{Contents}
 use Rattle.esd_merge.specs.declared.reading.Reading.{Reading}
 use Rattle.esd_merge.specs.Held.{is_marked_in}
 
--- there are few enough symbols
-pub record IsSmall (c : Contents) : Type 0 where
+-- there are few enough symbols, and none stands twice
+pub record IsNumbered (c : Contents) : Type 0 where
   pub symbols : length c.symbols ≤ 32511
   pub sections : length c.sections ≤ 32511
   pub registers : length c.registers ≤ 32511
+  pub symbols_apart : IsDistinct symbol_eq c.symbols
+  pub sections_apart : IsDistinct symbol_eq c.sections
+  pub controls_apart : IsDistinct symbol_eq c.controls
+
+-- the symbol stands at place k
+abbrev pub stands_at : List Symbol → ℕ → Symbol → Bool
+stands_at ys k y = option_map_or (λ z. symbol_eq z y) (slice_get ys k) false
 
 -- the place of a symbol in the order of first appearance
 abbrev pub rank_by : Contents → Symbol → ℕ

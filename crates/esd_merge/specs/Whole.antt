@@ -14,7 +14,7 @@ use Rattle.esd_merge.specs.declared.reading.Reading.{Reading}
 use Rattle.esd_merge.specs.Added.{IsMerged}
 use Rattle.esd_merge.specs.Indexed.{content_of}
 use Rattle.esd_merge.specs.Held.{as_read, AreMarked}
-use Rattle.esd_merge.specs.Looked.{IsSmall}
+use Rattle.esd_merge.specs.Looked.{IsNumbered}
 use Rattle.esd_merge.specs.Listed.{pushed, constant_by, start_by, text_by}
 
 -- the index is that of these modules
@@ -22,7 +22,7 @@ pub record Holds (c : Contents) (xs : List Reading) : Type 0 where
   pub merged : IsMerged (map as_read xs)
   pub indexed : c ≡ content_of (map as_read xs)
   pub marked : AreMarked (map as_read xs) xs
-  pub small : IsSmall c
+  pub small : IsNumbered c
 
 -- the numbers of labels and of unresolved names are those of the program of these modules
 pub record Means (rs : List Read) (labels_at unknowns_at : Name → Option ℕ) : Type 0 where

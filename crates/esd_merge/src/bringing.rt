@@ -5,10 +5,10 @@ ghost use Rattle.le_bytes.specs.Names.{name_eq};
 ghost use Rattle.esd_index.specs.Keys.{sight};
 ghost use Rattle.esd_index.specs.Contents.{now_of};
 ghost use Rattle.linking_model.specs.Kept.{symbol_eq, ByName, Private};
-ghost use Rattle.esd_merge.specs.Looked.{IsSmall, number_by};
+ghost use Rattle.esd_merge.specs.Looked.{IsNumbered, number_by};
 ghost use Rattle.esd_merge.specs.Listed.{home_at, name_means, item_means};
 
-use crate::lookups::{number_of, section_number};
+use crate::lookups::{number_near, section_near};
 use esd_index::{Index, Key, Sighted, flag_at};
 use le_bytes::Name;
 use std::collections::HashMap;
@@ -44,14 +44,14 @@ fn sighted(at: &Standing<'_>, number: usize) -> Option<Sighted>
     }
 }
 
-/// The number of the section in which an item is kept.
+/// The number of the section in which an item is kept. The number that is likely is tried first.
 #[tactic(auto, unfolding(crate::specs::Listed::home_at))]
-pub(crate) fn home(index: &Index, at: &Standing<'_>, item: usize) -> Option<u32>
-    requires { IsSmall (now_of index.now) }
+pub(crate) fn home(index: &Index, at: &Standing<'_>, item: usize, likely: usize) -> Option<u32>
+    requires { IsNumbered (now_of index.now) }
     ensures { result ≡ home_at (now_of index.now) at.now.number at.now.segment at.now.items.now at.now.kept.now item }
 {
     if flag_at(at.kept, item) {
-        number_of(index, sighted(at, item))
+        number_near(index, likely, sighted(at, item))
     } else {
         None
     }
@@ -66,13 +66,13 @@ fn number_at(numbers: &HashMap<Name, u32>, name: &Name) -> u32
     }
 }
 
-/// What a name means.
+/// What a name means. The section of the number that is likely is tried first.
 #[tactic(auto, unfolding(crate::specs::Listed::name_means))]
-pub(crate) fn name_means(index: &Index, meanings: &Meanings, name: Name) -> Target
-    requires { IsSmall (now_of index.now) }
+pub(crate) fn name_means(index: &Index, meanings: &Meanings, name: Name, likely: usize) -> Target
+    requires { IsNumbered (now_of index.now) }
     ensures { result ≡ name_means (now_of index.now) (get name_eq meanings.now.labels) (get name_eq meanings.now.unknowns) name }
 {
-    match section_number(index, &Key::Named(name)) {
+    match section_near(index, likely, &Key::Named(name)) {
         Some(number) => Target::Section(number),
         None => match meanings.labels.get(&name) {
             Some(number) => Target::Label(*number),
@@ -81,25 +81,31 @@ pub(crate) fn name_means(index: &Index, meanings: &Meanings, name: Name) -> Targ
     }
 }
 
-fn private_number(index: &Index, at: &Standing<'_>, number: usize) -> u32
-    requires { IsSmall (now_of index.now) }
+fn private_number(index: &Index, at: &Standing<'_>, number: usize, likely: usize) -> u32
+    requires { IsNumbered (now_of index.now) }
     ensures { result ≡ unwrap_or (number_by (now_of index.now) (Private at.now.number number)) 0 }
 {
-    match section_number(index, &Key::Private(at.number, number)) {
+    match section_near(index, likely, &Key::Private(at.number, number)) {
         Some(number) => number,
         None => 0,
     }
 }
 
-fn item_means(index: &Index, meanings: &Meanings, at: &Standing<'_>, number: usize) -> Target
-    requires { IsSmall (now_of index.now) }
+fn item_means(
+    index: &Index,
+    meanings: &Meanings,
+    at: &Standing<'_>,
+    number: usize,
+    likely: usize,
+) -> Target
+    requires { IsNumbered (now_of index.now) }
     ensures { result ≡ item_means (now_of index.now) (get name_eq meanings.now.labels) (get name_eq meanings.now.unknowns) at.now.number number (slice_get at.now.items.now number) }
 {
     match at.items.get(number) {
         None => Target::Total,
         Some(x) => match x.kind_kept() {
-            ItemKind::Pc => Target::Section(private_number(index, at, number)),
-            _ => name_means(index, meanings, x.name),
+            ItemKind::Pc => Target::Section(private_number(index, at, number, likely)),
+            _ => name_means(index, meanings, x.name, likely),
         },
     }
 }
@@ -113,20 +119,21 @@ pub(crate) fn kept_means(
     at: &Standing<'_>,
     number: usize,
     home: Option<u32>,
+    likely: usize,
 ) -> Target
-    requires small { IsSmall (now_of index.now) }
+    requires small { IsNumbered (now_of index.now) }
     requires home { home ≡ home_at (now_of index.now) at.now.number at.now.segment at.now.items.now at.now.kept.now number }
     ensures { result ≡ item_means (now_of index.now) (get name_eq meanings.now.labels) (get name_eq meanings.now.unknowns) at.now.number number (slice_get at.now.items.now number) }
 {
     match home {
         Some(section) => Target::Section(section),
-        None => item_means(index, meanings, at, number),
+        None => item_means(index, meanings, at, number, likely),
     }
 }
 
 /// The number of a register.
 pub(crate) fn register_number(index: &Index, name: Name) -> u32
-    requires { IsSmall (now_of index.now) }
+    requires { IsNumbered (now_of index.now) }
     ensures { result ≡ unwrap_or (position (symbol_eq (ByName name)) (now_of index.now).registers) 0 }
 {
     match index.registers.place(&Key::Named(name)) {

@@ -16,6 +16,21 @@ pub(crate) struct Area {
     pub(crate) length: u32,
 }
 
+impl Area {
+    ghost use Rattle.std.specs.Prelude.{◌≡◌};
+    ghost use Rattle.esd_merge.specs.Gathered.{no_area};
+
+    /// Of no CM items. Takes no memory.
+    pub(crate) fn none(alloc: Global) -> Area
+        ensures { result ≡ no_area }
+    {
+        Area {
+            users: Items::new(alloc),
+            length: 0,
+        }
+    }
+}
+
 /// Puts a value at a name.
 pub(crate) fn put<V: Drop>(
     map: &mut HashMap<Name, V>,
@@ -35,10 +50,7 @@ pub(crate) fn take_area(alloc: Global, areas: &mut HashMap<Name, Area>, name: &N
 {
     match areas.remove(name) {
         Some(area) => area,
-        None => Area {
-            users: Items::new(alloc),
-            length: 0,
-        },
+        None => Area::none(alloc),
     }
 }
 

@@ -1,17 +1,17 @@
 //! What the items of the modules that were read bring, by name.
-ghost use Rattle.std.specs.Prelude.{◌≡◌, fold, option_map, None, IfOk, OnOk};
+ghost use Rattle.std.specs.Prelude.{◌≡◌, [], map, fold, option_map, None, IfOk, OnOk};
 ghost use Rattle.std.specs.HashMap.{get};
 ghost use Rattle.le_bytes.specs.declared.name.Name.{Name};
 ghost use Rattle.le_bytes.specs.Names.{name_eq};
 ghost use Rattle.sym_mod.specs.Kinds.{kind_of, is_sd, is_cm, is_label, is_register};
 ghost use Rattle.esd_index.specs.Keys.{sight};
 ghost use Rattle.esd_index.specs.Contents.{now_of};
-ghost use Rattle.esd_merge.specs.Looked.{IsSmall};
-ghost use Rattle.esd_merge.specs.Gathered.{base_of, area_in, no_area, extent_in, label_by, label_step, control_step, area_step, extent_step};
+ghost use Rattle.esd_merge.specs.Looked.{IsNumbered};
+ghost use Rattle.esd_merge.specs.Gathered.{base_of, area_in, no_area, extent_in, label_by, label_step, control_listed, area_step, extent_step};
 ghost use Rattle.esd_merge.specs.Walked.{gathered_from};
 
 use crate::by_name::{Area, Extent, put, take_area};
-use crate::lookups::{home, rank, seen};
+use crate::lookups::{home, rank, seen, stands_at};
 use crate::reading::Reading;
 use esd_index::{Index, Key, Sighted};
 use le_bytes::Name;
@@ -59,7 +59,7 @@ fn base_of(x: Option<Sighted>) -> u32
 /// The label at an item, where its section is kept.
 #[tactic(auto, unfolding(crate::specs::Gathered::label_by))]
 fn label(index: &Index, reads: &[Reading], x: &Sighted) -> Option<Label>
-    requires { IsSmall (now_of index.now) }
+    requires { IsNumbered (now_of index.now) }
     ensures { result ≡ label_by (now_of index.now) reads.now (sight x.now) }
 {
     let number = x.item.owner as usize;
@@ -79,7 +79,7 @@ fn note_label(
     reads: &[Reading],
     x: &Sighted,
 ) -> Result<(), AllocError>
-    requires { IsSmall (now_of index.now) }
+    requires { IsNumbered (now_of index.now) }
     ensures { OnOk result ((y : Name) → get name_eq labels.new y ≡ label_step (now_of index.now) reads.now y (get name_eq labels.old y) (sight x.now)) }
 {
     if !is_label(x) {
@@ -96,16 +96,18 @@ fn note_label(
 
 // ---- sections
 
-fn note_control(controls: &mut HashMap<Name, Sighted>, x: &Sighted) -> Result<(), AllocError>
-    ensures { OnOk result ((y : Name) → option_map sight (get name_eq controls.new y) ≡ control_step y (option_map sight (get name_eq controls.old y)) (sight x.now)) }
+#[tactic(auto, unfolding(crate::specs::Gathered::control_listed))]
+fn note_control(controls: &mut Vec<Sighted>, index: &Index, x: &Sighted) -> Result<(), AllocError>
+    ensures { OnOk result (map sight controls.new.items ≡ control_listed (now_of index.now).controls (map sight controls.old.items) (sight x.now)) }
 {
     if !is_control(x) {
         return Ok(());
     }
-    if controls.contains_key(&x.item.name) {
+    if !stands_at(&index.controls, controls.len(), &Key::Named(x.item.name)) {
         return Ok(());
     }
-    put(controls, x.item.name, *x)
+    controls.push(*x)?;
+    Ok(())
 }
 
 fn note_area(alloc: Global, areas: &mut HashMap<Name, Area>, x: &Sighted) -> Result<(), AllocError>
@@ -157,8 +159,8 @@ fn note_extent(extents: &mut HashMap<Name, Extent>, x: &Sighted) -> Result<(), A
 /// What the items bring, by name.
 #[derive(Drop)]
 pub(crate) struct Gathered {
-    /// The first SD item of each name.
-    pub(crate) controls: HashMap<Name, Sighted>,
+    /// The first SD item of each name, in the order of their names in the index.
+    pub(crate) controls: Vec<Sighted>,
     /// The CM items of each name, as one area.
     pub(crate) areas: HashMap<Name, Area>,
     /// The first kept label of each name.
@@ -168,15 +170,15 @@ pub(crate) struct Gathered {
 }
 
 impl Gathered {
-    ghost use Rattle.std.specs.Prelude.{◌≡◌, fold, option_map, OnOk};
+    ghost use Rattle.std.specs.Prelude.{◌≡◌, map, fold, OnOk};
     ghost use Rattle.std.specs.HashMap.{get};
     ghost use Rattle.le_bytes.specs.declared.name.Name.{Name};
     ghost use Rattle.le_bytes.specs.Names.{name_eq};
     ghost use Rattle.linking_model.specs.Kept.{sights_in};
     ghost use Rattle.esd_index.specs.Keys.{sight};
     ghost use Rattle.esd_index.specs.Contents.{now_of};
-    ghost use Rattle.esd_merge.specs.Looked.{IsSmall};
-    ghost use Rattle.esd_merge.specs.Gathered.{area_in, extent_in, label_step, control_step, area_step, extent_step};
+    ghost use Rattle.esd_merge.specs.Looked.{IsNumbered};
+    ghost use Rattle.esd_merge.specs.Gathered.{area_in, extent_in, label_step, control_listed, area_step, extent_step};
 
     fn note(
         &mut self,
@@ -185,13 +187,13 @@ impl Gathered {
         reads: &[Reading],
         x: &Sighted,
     ) -> Result<(), AllocError>
-        requires { IsSmall (now_of index.now) }
-        ensures controls { OnOk result ((y : Name) → option_map sight (get name_eq self.new.controls y) ≡ control_step y (option_map sight (get name_eq self.old.controls y)) (sight x.now)) }
+        requires { IsNumbered (now_of index.now) }
+        ensures controls { OnOk result (map sight self.new.controls.items ≡ control_listed (now_of index.now).controls (map sight self.old.controls.items) (sight x.now)) }
         ensures areas { OnOk result ((y : Name) → area_in (get name_eq self.new.areas y) ≡ area_step y (area_in (get name_eq self.old.areas y)) (sight x.now)) }
         ensures labels { OnOk result ((y : Name) → get name_eq self.new.labels y ≡ label_step (now_of index.now) reads.now y (get name_eq self.old.labels y) (sight x.now)) }
         ensures extents { OnOk result ((y : Name) → extent_in (get name_eq self.new.extents y) ≡ extent_step y (extent_in (get name_eq self.old.extents y)) (sight x.now)) }
     {
-        note_control(&mut self.controls, x)?;
+        note_control(&mut self.controls, index, x)?;
         note_area(alloc, &mut self.areas, x)?;
         note_label(&mut self.labels, index, reads, x)?;
         note_extent(&mut self.extents, x)
@@ -206,8 +208,8 @@ impl Gathered {
         segment: u8,
         items: &[Item],
     ) -> Result<(), AllocError>
-        requires { IsSmall (now_of index.now) }
-        ensures controls { OnOk result ((y : Name) → option_map sight (get name_eq self.new.controls y) ≡ fold (control_step y) (option_map sight (get name_eq self.old.controls y)) (sights_in of_module segment 0 items.now)) }
+        requires { IsNumbered (now_of index.now) }
+        ensures controls { OnOk result (map sight self.new.controls.items ≡ fold (control_listed (now_of index.now).controls) (map sight self.old.controls.items) (sights_in of_module segment 0 items.now)) }
         ensures areas { OnOk result ((y : Name) → area_in (get name_eq self.new.areas y) ≡ fold (area_step y) (area_in (get name_eq self.old.areas y)) (sights_in of_module segment 0 items.now)) }
         ensures labels { OnOk result ((y : Name) → get name_eq self.new.labels y ≡ fold (label_step (now_of index.now) reads.now y) (get name_eq self.old.labels y) (sights_in of_module segment 0 items.now)) }
         ensures extents { OnOk result ((y : Name) → extent_in (get name_eq self.new.extents y) ≡ fold (extent_step y) (extent_in (get name_eq self.old.extents y)) (sights_in of_module segment 0 items.now)) }
@@ -231,14 +233,14 @@ pub(crate) fn gather(
     index: &Index,
     reads: &[Reading],
 ) -> Result<Gathered, AllocError>
-    requires { IsSmall (now_of index.now) }
-    ensures controls { IfOk result (λ g. (y : Name) → option_map sight (get name_eq g.controls y) ≡ gathered_from (control_step y) None 0 reads.now) }
+    requires { IsNumbered (now_of index.now) }
+    ensures controls { IfOk result (λ g. map sight g.controls.items ≡ gathered_from (control_listed (now_of index.now).controls) [] 0 reads.now) }
     ensures areas { IfOk result (λ g. (y : Name) → area_in (get name_eq g.areas y) ≡ gathered_from (area_step y) no_area 0 reads.now) }
     ensures labels { IfOk result (λ g. (y : Name) → get name_eq g.labels y ≡ gathered_from (label_step (now_of index.now) reads.now y) None 0 reads.now) }
     ensures extents { IfOk result (λ g. (y : Name) → extent_in (get name_eq g.extents y) ≡ gathered_from (extent_step y) (extent_in None) 0 reads.now) }
 {
     let mut gathered = Gathered {
-        controls: HashMap::with_capacity(alloc, index.controls.len())?,
+        controls: Vec::with_capacity(alloc, index.controls.len())?,
         areas: HashMap::new(alloc),
         labels: HashMap::new(alloc),
         extents: HashMap::new(alloc),

@@ -1,16 +1,17 @@
 //! The sections, labels, registers and unresolved names of a program.
-ghost use Rattle.std.specs.Prelude.{◌≡◌, [], Some, map, fold, slice_get, option_map, IfOk, OnOk};
+ghost use Rattle.std.specs.Prelude.{◌≡◌, false, [], Some, map, fold, slice_get, option_map, IfOk, OnOk};
 ghost use Rattle.std.specs.HashMap.{get};
 ghost use Rattle.le_bytes.specs.Names.{name_eq};
+ghost use Rattle.linking_model.specs.Kept.{ByName};
 ghost use Rattle.esd_index.specs.Keys.{as_symbol, sight};
 ghost use Rattle.esd_index.specs.Contents.{now_of};
-ghost use Rattle.esd_merge.specs.Looked.{IsSmall, seen_by};
-ghost use Rattle.esd_merge.specs.Gathered.{area_in, extent_in};
-ghost use Rattle.esd_merge.specs.Listed.{pushed, at_name, named_by, private_by, section_by, register_by, has, is_referenced_by, is_defined_by, is_weak_by, unknown_by};
+ghost use Rattle.esd_merge.specs.Looked.{IsNumbered, seen_by};
+ghost use Rattle.esd_merge.specs.Gathered.{control_at, area_in, extent_in};
+ghost use Rattle.esd_merge.specs.Listed.{pushed, at_name, named_by, private_by, section_by, register_by, has, is_referenced_by, is_weak_by, unknown_by};
 
 use crate::by_name::{Area, Extent};
 use crate::gathering::extent_at;
-use crate::lookups::{rank, seen};
+use crate::lookups::{place_next, rank_next, seen};
 use crate::reading::Reading;
 use esd_index::{Index, Key, Sighted, Symbols};
 use le_bytes::{Items, Name};
@@ -37,26 +38,36 @@ fn copied(alloc: Global, users: &[u8]) -> Result<Items<u8>, AllocError>
     Ok(Items::from_vec(copy))
 }
 
-fn users_at(
-    alloc: Global,
-    areas: &HashMap<Name, Area>,
-    name: &Name,
-) -> Result<Items<u8>, AllocError>
-    ensures { IfOk result (λ users. users ≡ (area_in (get name_eq areas.now name.now)).users) }
+/// The area of a name. Nothing is looked up where there are no areas.
+fn area_at(alloc: Global, areas: &HashMap<Name, Area>, name: &Name) -> Result<Area, AllocError>
+    ensures { IfOk result (λ area. area ≡ area_in (get name_eq areas.now name.now)) }
 {
+    if areas.is_empty() {
+        return Ok(Area::none(alloc));
+    }
     match areas.get(name) {
-        Some(area) => copied(alloc, area.users.as_slice()),
-        None => Ok(Items::new(alloc)),
+        Some(area) => Ok(Area {
+            users: copied(alloc, area.users.as_slice())?,
+            length: area.length,
+        }),
+        None => Ok(Area::none(alloc)),
     }
 }
 
-fn length_at(areas: &HashMap<Name, Area>, name: &Name) -> u32
-    ensures { result ≡ (area_in (get name_eq areas.now name.now)).length }
+/// The first SD item of a name, where the first SD items are listed in the order of their names.
+fn control_at(index: &Index, controls: &[Sighted], next: &mut usize, name: Name) -> Option<Sighted>
+    requires { IsNumbered (now_of index.now) }
+    ensures { option_map sight result ≡ control_at (now_of index.now).controls (map sight controls.now) name }
 {
-    match areas.get(name) {
-        Some(area) => area.length,
-        None => 0,
-    }
+    let place = place_next(&index.controls, next, &Key::Named(name))?;
+    controls.get(place).copied()
+}
+
+/// Where the next section is likely to stand, among the symbols and among the first SD items.
+#[derive(Drop)]
+struct Likely {
+    symbol: usize,
+    control: usize,
 }
 
 /// An area, or the SD that is kept, with the greatest length of the areas of its name.
@@ -65,16 +76,16 @@ fn named_section(
     alloc: Global,
     index: &Index,
     name: Name,
-    first: Option<Sighted>,
+    controls: &[Sighted],
     areas: &HashMap<Name, Area>,
+    likely: &mut Likely,
 ) -> Result<Section, AllocError>
-    requires { IsSmall (now_of index.now) }
-    ensures { IfOk result (λ section. section ≡ named_by (now_of index.now) name (option_map sight first) (area_in (get name_eq areas.now name))) }
+    requires { IsNumbered (now_of index.now) }
+    ensures { IfOk result (λ section. section ≡ named_by (now_of index.now) name (control_at (now_of index.now).controls (map sight controls.now) name) (area_in (get name_eq areas.now name))) }
 {
-    let rank = rank(index, &Key::Named(name));
-    let length = length_at(areas, &name);
-    let users = users_at(alloc, areas, &name)?;
-    match first {
+    let rank = rank_next(index, &mut likely.symbol, &Key::Named(name));
+    let Area { users, length } = area_at(alloc, areas, &name)?;
+    match control_at(index, controls, &mut likely.control, name) {
         Some(x) => Ok(Section {
             name,
             kind: SecKind::Sd,
@@ -95,26 +106,38 @@ fn named_section(
 }
 
 #[tactic(auto, unfolding(crate::specs::Listed::private_by))]
-fn private_section(alloc: Global, index: &Index, key: &Key, x: &Sighted) -> Section
-    requires { IsSmall (now_of index.now) }
+fn private_section(
+    alloc: Global,
+    index: &Index,
+    key: &Key,
+    x: &Sighted,
+    likely: &mut Likely,
+) -> Section
+    requires { IsNumbered (now_of index.now) }
     ensures { result ≡ private_by (now_of index.now) (as_symbol key.now) (sight x.now) }
 {
     Section {
         name: Name::BLANK,
         kind: SecKind::Pc,
-        rank: rank(index, key),
+        rank: rank_next(index, &mut likely.symbol, key),
         segment: x.segment,
         users: Items::new(alloc),
         length: x.item.length,
     }
 }
 
-fn private_at(alloc: Global, index: &Index, key: &Key, x: Option<Sighted>) -> Option<Section>
-    requires { IsSmall (now_of index.now) }
+fn private_at(
+    alloc: Global,
+    index: &Index,
+    key: &Key,
+    x: Option<Sighted>,
+    likely: &mut Likely,
+) -> Option<Section>
+    requires { IsNumbered (now_of index.now) }
     ensures { result ≡ option_map (private_by (now_of index.now) (as_symbol key.now)) (option_map sight x) }
 {
     match x {
-        Some(x) => Some(private_section(alloc, index, key, &x)),
+        Some(x) => Some(private_section(alloc, index, key, &x, likely)),
         None => None,
     }
 }
@@ -123,21 +146,22 @@ fn section(
     alloc: Global,
     index: &Index,
     reads: &[Reading],
-    controls: &HashMap<Name, Sighted>,
+    controls: &[Sighted],
     areas: &HashMap<Name, Area>,
     key: &Key,
+    likely: &mut Likely,
 ) -> Result<Option<Section>, AllocError>
-    requires { IsSmall (now_of index.now) }
-    ensures { IfOk result (λ section. section ≡ section_by (now_of index.now) reads.now (λ y. option_map sight (get name_eq controls.now y)) (λ y. area_in (get name_eq areas.now y)) (as_symbol key.now)) }
+    requires { IsNumbered (now_of index.now) }
+    ensures { IfOk result (λ section. section ≡ section_by (now_of index.now) reads.now (control_at (now_of index.now).controls (map sight controls.now)) (λ y. area_in (get name_eq areas.now y)) (as_symbol key.now)) }
 {
     match key {
         Key::Named(name) => {
-            let first = controls.get(name).copied();
-            let section = named_section(alloc, index, *name, first, areas)?;
+            let section = named_section(alloc, index, *name, controls, areas, likely)?;
             Ok(Some(section))
         }
         Key::Private(module, number) => {
-            Ok(private_at(alloc, index, key, seen(reads, *module, *number)))
+            let x = seen(reads, *module, *number);
+            Ok(private_at(alloc, index, key, x, likely))
         }
     }
 }
@@ -147,15 +171,19 @@ pub(crate) fn sections(
     alloc: Global,
     index: &Index,
     reads: &[Reading],
-    controls: &HashMap<Name, Sighted>,
+    controls: &[Sighted],
     areas: &HashMap<Name, Area>,
 ) -> Result<Items<Section>, AllocError>
-    requires { IsSmall (now_of index.now) }
-    ensures { IfOk result (λ list. list ≡ fold (λ xs y. pushed xs (section_by (now_of index.now) reads.now (λ y. option_map sight (get name_eq controls.now y)) (λ y. area_in (get name_eq areas.now y)) y)) [] (now_of index.now).sections) }
+    requires { IsNumbered (now_of index.now) }
+    ensures { IfOk result (λ list. list ≡ fold (λ xs y. pushed xs (section_by (now_of index.now) reads.now (control_at (now_of index.now).controls (map sight controls.now)) (λ y. area_in (get name_eq areas.now y)) y)) [] (now_of index.now).sections) }
 {
     let mut list = Items::from_vec(Vec::with_capacity(alloc, index.sections.len())?);
+    let mut likely = Likely {
+        symbol: 0,
+        control: 0,
+    };
     for key in index.sections.keys() {
-        let section = section(alloc, index, reads, controls, areas, key)?;
+        let section = section(alloc, index, reads, controls, areas, key, &mut likely)?;
         push_some(&mut list, section)?;
     }
     Ok(list)
@@ -166,6 +194,9 @@ pub(crate) fn sections(
 fn label_of(labels: &HashMap<Name, Label>, key: &Key) -> Option<Label>
     ensures { result ≡ at_name (get name_eq labels.now) (as_symbol key.now) }
 {
+    if labels.is_empty() {
+        return None;
+    }
     match key {
         Key::Named(name) => labels.get(name).copied(),
         Key::Private(..) => None,
@@ -233,16 +264,25 @@ fn is_referenced(index: &Index, name: Name) -> bool
         || (has(&index.named, name) || has(&index.labelled, name))
 }
 
-fn is_defined(index: &Index, name: Name) -> bool
-    ensures { result ≡ is_defined_by (now_of index.now) name }
-{
-    has(&index.sections, name) || has(&index.labels, name)
-}
-
 fn is_weak(index: &Index, name: Name) -> bool
     ensures { result ≡ is_weak_by (now_of index.now) name }
 {
     (has(&index.weak, name) && !has(&index.strong, name)) && !has(&index.labelled, name)
+}
+
+/// A name that no section has, where it is unresolved.
+#[tactic(auto, unfolding(crate::specs::Listed::unknown_by))]
+fn unknown_name(index: &Index, name: Name) -> Option<Unknown>
+    requires { has (now_of index.now).sections name ≡ false }
+    ensures { result ≡ unknown_by (now_of index.now) (ByName name) }
+{
+    if has(&index.labels, name) || !is_referenced(index, name) {
+        return None;
+    }
+    Some(Unknown {
+        name,
+        weak: is_weak(index, name),
+    })
 }
 
 /// The name of a symbol, where it is unresolved.
@@ -252,25 +292,40 @@ pub(crate) fn unknown(index: &Index, key: &Key) -> Option<Unknown>
 {
     match key {
         Key::Named(name) => {
-            if is_defined(index, *name) || !is_referenced(index, *name) {
-                return None;
+            if has(&index.sections, *name) {
+                None
+            } else {
+                unknown_name(index, *name)
             }
-            Some(Unknown {
-                name: *name,
-                weak: is_weak(index, *name),
-            })
         }
+        Key::Private(..) => None,
+    }
+}
+
+/// The name of a symbol, where it is unresolved; a section is looked for first at `next`.
+#[tactic(auto, unfolding(crate::specs::Listed::unknown_by))]
+fn unknown_next(index: &Index, next: &mut usize, key: &Key) -> Option<Unknown>
+    requires { IsNumbered (now_of index.now) }
+    ensures { result ≡ unknown_by (now_of index.now) (as_symbol key.now) }
+{
+    match key {
+        Key::Named(name) => match place_next(&index.sections, next, key) {
+            Some(_) => None,
+            None => unknown_name(index, *name),
+        },
         Key::Private(..) => None,
     }
 }
 
 /// The unresolved names, in order of first appearance.
 pub(crate) fn unknowns(alloc: Global, index: &Index) -> Result<Items<Unknown>, AllocError>
+    requires { IsNumbered (now_of index.now) }
     ensures { IfOk result (λ list. list ≡ fold (λ xs y. pushed xs (unknown_by (now_of index.now) y)) [] (now_of index.now).symbols) }
 {
     let mut list = Items::new(alloc);
+    let mut next = 0;
     for key in index.symbols.keys() {
-        push_some(&mut list, unknown(index, key))?;
+        push_some(&mut list, unknown_next(index, &mut next, key))?;
     }
     Ok(list)
 }

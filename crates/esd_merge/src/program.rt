@@ -1,5 +1,5 @@
 //! The program of the modules that were read.
-ghost use Rattle.std.specs.Prelude.{◌≡◌, ◌<◌, ◌≤◌, ◌^◌, ℕ, [], None, map, option_map, length, IfOk, OnOk};
+ghost use Rattle.std.specs.Prelude.{◌≡◌, ◌<◌, ◌≤◌, ◌^◌, ℕ, [], None, map, length, IfOk, OnOk};
 ghost use Rattle.std.specs.HashMap.{get};
 ghost use Rattle.std.specs.List.{position_from};
 ghost use Rattle.le_bytes.specs.declared.name.Name.{Name};
@@ -8,8 +8,8 @@ ghost use Rattle.linking_model.specs.Merged.{sections, labels, unresolved, regis
 ghost use Rattle.esd_index.specs.Keys.{sight};
 ghost use Rattle.esd_index.specs.Contents.{now_of};
 ghost use Rattle.esd_merge.specs.Held.{as_read};
-ghost use Rattle.esd_merge.specs.Looked.{IsSmall};
-ghost use Rattle.esd_merge.specs.Gathered.{no_area, area_in, extent_in, label_step, control_step, area_step, extent_step};
+ghost use Rattle.esd_merge.specs.Looked.{IsNumbered};
+ghost use Rattle.esd_merge.specs.Gathered.{no_area, area_in, extent_in, label_step, control_listed, area_step, extent_step};
 ghost use Rattle.esd_merge.specs.Walked.{gathered_from};
 ghost use Rattle.esd_merge.specs.Listed.{pushed, start_by};
 ghost use Rattle.esd_merge.specs.Numbered.{is_named_so};
@@ -33,11 +33,12 @@ pub(crate) fn program_sections(
     gathered: &Gathered,
 ) -> Result<Items<Section>, AllocError>
     requires holds { Holds (now_of index.now) reads.now }
-    requires controls { (y : Name) → option_map sight (get name_eq gathered.now.controls y) ≡ gathered_from (control_step y) None 0 reads.now }
+    requires controls { map sight gathered.now.controls.items ≡ gathered_from (control_listed (now_of index.now).controls) [] 0 reads.now }
     requires areas { (y : Name) → area_in (get name_eq gathered.now.areas y) ≡ gathered_from (area_step y) no_area 0 reads.now }
     ensures { IfOk result (λ list. list ≡ sections (map as_read reads.now)) }
 {
-    crate::listing::sections(alloc, index, reads, &gathered.controls, &gathered.areas)
+    let controls = gathered.controls.as_slice();
+    crate::listing::sections(alloc, index, reads, controls, &gathered.areas)
 }
 
 pub(crate) fn program_labels(
@@ -112,7 +113,7 @@ fn bring_module(
     number: usize,
     reading: Reading,
 ) -> Result<(), AllocError>
-    requires { IsSmall (now_of index.now) }
+    requires { IsNumbered (now_of index.now) }
     ensures constants { OnOk result (brought.new.constants ≡ module_constants (now_of index.now) (get name_eq meanings.now.labels) (get name_eq meanings.now.unknowns) brought.old.constants number reading) }
     ensures texts { OnOk result (brought.new.texts ≡ module_texts (now_of index.now) brought.old.texts number reading) }
     ensures starts { OnOk result (brought.new.starts ≡ pushed brought.old.starts (start_by (now_of index.now) number reading.segment reading.read.items reading.kept.items reading.read.entry)) }
@@ -154,7 +155,7 @@ pub(crate) fn bring(
     meanings: &Meanings,
     reads: Vec<Reading>,
 ) -> Result<Brought, AllocError>
-    requires { IsSmall (now_of index.now) }
+    requires { IsNumbered (now_of index.now) }
     ensures constants { IfOk result (λ x. x.constants ≡ constants_from (now_of index.now) (get name_eq meanings.now.labels) (get name_eq meanings.now.unknowns) [] 0 reads.items) }
     ensures texts { IfOk result (λ x. x.texts ≡ texts_from (now_of index.now) [] 0 reads.items) }
     ensures starts { IfOk result (λ x. x.starts ≡ starts_from (now_of index.now) [] 0 reads.items) }

@@ -1,9 +1,11 @@
 //! The constants, texts and entries that a module brings to a program.
-ghost use Rattle.std.specs.Prelude.{◌≡◌, ◌++◌, ◌∷◌, [], map, fold, OnOk, IfOk};
+ghost use Rattle.std.specs.Prelude.{◌≡◌, ◌+◌, ◌++◌, ◌∷◌, [], map, fold, OnOk, IfOk, IfSome};
+ghost use Rattle.std.specs.Option.{option_map_or};
 ghost use Rattle.std.specs.HashMap.{get};
 ghost use Rattle.le_bytes.specs.Names.{name_eq};
+ghost use Rattle.sym_mod.specs.declared.program.Target.TheVariants.{Section as InSection};
 ghost use Rattle.esd_index.specs.Contents.{now_of};
-ghost use Rattle.esd_merge.specs.Looked.{IsSmall};
+ghost use Rattle.esd_merge.specs.Looked.{IsNumbered};
 ghost use Rattle.esd_merge.specs.Listed.{pushed, home_at};
 ghost use Rattle.esd_merge.specs.Tabled.{homes_of, target_at, targets_of, home_in, means_in, term_in, constant_in, start_in, text_in};
 
@@ -19,10 +21,35 @@ use sym_mod::{
 /// What the items of a module are in a program: for each the number of the section in which it is
 /// kept, and what a target means that names it. Names are looked up once for each item, and not for
 /// each constant.
+///
+/// Mostly the sections of modules that follow one another have numbers that do, and so have those to
+/// which they refer: each is looked for first behind the one before it.
 #[derive(Drop)]
 pub(crate) struct ItemTable {
     homes: Vec<Option<u32>>,
     targets: Vec<Target>,
+    likely_home: usize,
+    likely_target: usize,
+}
+
+/// The number behind a section; of no section the number that was likely before.
+fn behind(section: Option<u32>, before: usize) -> usize
+    ensures { result ≡ option_map_or (λ n. n + 1) section before }
+{
+    match section {
+        Some(section) => section as usize + 1,
+        None => before,
+    }
+}
+
+/// The number of the section that is meant, if it is one.
+fn section_meant(target: &Target) -> Option<u32>
+    ensures { IfSome result (λ n. target.now ≡ InSection n) }
+{
+    match target {
+        Target::Section(section) => Some(*section),
+        _ => None,
+    }
 }
 
 impl ItemTable {
@@ -31,6 +58,8 @@ impl ItemTable {
         ItemTable {
             homes: Vec::new(alloc),
             targets: Vec::new(alloc),
+            likely_home: 0,
+            likely_target: 0,
         }
     }
 
@@ -41,7 +70,7 @@ impl ItemTable {
         meanings: &Meanings,
         at: &Standing<'_>,
     ) -> Result<(), AllocError>
-        requires { IsSmall (now_of index.now) }
+        requires { IsNumbered (now_of index.now) }
         ensures homes { OnOk result (self.new.homes.items ≡ homes_of (now_of index.now) at.now.number at.now.segment at.now.items.now at.now.kept.now) }
         ensures targets { OnOk result (self.new.targets.items ≡ targets_of (now_of index.now) (get name_eq meanings.now.labels) (get name_eq meanings.now.unknowns) at.now.number at.now.items.now) }
     {
@@ -60,12 +89,14 @@ impl ItemTable {
         at: &Standing<'_>,
         number: usize,
     ) -> Result<(), AllocError>
-        requires { IsSmall (now_of index.now) }
+        requires { IsNumbered (now_of index.now) }
         ensures homes { OnOk result (self.new.homes.items ≡ self.old.homes.items ++ home_at (now_of index.now) at.now.number at.now.segment at.now.items.now at.now.kept.now number ∷ []) }
         ensures targets { OnOk result (self.new.targets.items ≡ self.old.targets.items ++ target_at (now_of index.now) (get name_eq meanings.now.labels) (get name_eq meanings.now.unknowns) at.now.number at.now.items.now number ∷ []) }
     {
-        let home = home(index, at, number);
-        let target = kept_means(index, meanings, at, number, home);
+        let home = home(index, at, number, self.likely_home);
+        let target = kept_means(index, meanings, at, number, home, self.likely_target);
+        self.likely_home = behind(home, self.likely_home);
+        self.likely_target = behind(section_meant(&target), self.likely_target);
         self.homes.push(home)?;
         self.targets.push(target)?;
         Ok(())
@@ -83,7 +114,7 @@ impl ItemTable {
 
     #[tactic(auto, unfolding(crate::specs::Tabled::means_in))]
     fn means(&self, index: &Index, meanings: &Meanings, target: SymTarget) -> Target
-        requires { IsSmall (now_of index.now) }
+        requires { IsNumbered (now_of index.now) }
         ensures { result ≡ means_in (now_of index.now) (get name_eq meanings.now.labels) (get name_eq meanings.now.unknowns) self.now.targets.items target }
     {
         match target {
@@ -91,7 +122,7 @@ impl ItemTable {
                 Some(target) => *target,
                 None => Target::Total,
             },
-            SymTarget::Named(name) => name_means(index, meanings, name),
+            SymTarget::Named(name) => name_means(index, meanings, name, self.likely_target),
             SymTarget::Register(name) => Target::Register(register_number(index, name)),
             SymTarget::Total => Target::Total,
         }
@@ -104,7 +135,7 @@ impl ItemTable {
         meanings: &Meanings,
         terms: &[SymTerm],
     ) -> Result<Terms<Term>, AllocError>
-        requires { IsSmall (now_of index.now) }
+        requires { IsNumbered (now_of index.now) }
         ensures { IfOk result (λ list. list ≡ map (term_in (now_of index.now) (get name_eq meanings.now.labels) (get name_eq meanings.now.unknowns) self.now.targets.items) terms.now) }
     {
         let mut list = Terms::new(alloc);
@@ -126,7 +157,7 @@ impl ItemTable {
         meanings: &Meanings,
         x: &SymConst,
     ) -> Result<Option<Constant>, AllocError>
-        requires { IsSmall (now_of index.now) }
+        requires { IsNumbered (now_of index.now) }
         ensures { IfOk result (λ constant. constant ≡ constant_in (now_of index.now) (get name_eq meanings.now.labels) (get name_eq meanings.now.unknowns) self.now.homes.items self.now.targets.items x.now) }
     {
         let Some(section) = self.home(x.item) else {
@@ -151,7 +182,7 @@ impl ItemTable {
         meanings: &Meanings,
         constants: &[SymConst],
     ) -> Result<(), AllocError>
-        requires { IsSmall (now_of index.now) }
+        requires { IsNumbered (now_of index.now) }
         ensures { OnOk result (list.new ≡ fold (λ xs x. pushed xs (constant_in (now_of index.now) (get name_eq meanings.now.labels) (get name_eq meanings.now.unknowns) self.now.homes.items self.now.targets.items x)) list.old constants.now) }
     {
         for x in constants {

@@ -3,7 +3,7 @@ ghost use Rattle.std.specs.Prelude.{◌≡◌, ◌≤◌, filter_map, length, op
 ghost use Rattle.esd_index.specs.Keys.{as_symbol};
 ghost use Rattle.esd_index.specs.Contents.{now_of};
 ghost use Rattle.esd_merge.specs.Left.{target_of};
-ghost use Rattle.esd_merge.specs.Looked.{IsSmall};
+ghost use Rattle.esd_merge.specs.Looked.{IsNumbered};
 ghost use Rattle.esd_merge.specs.Rest.{names_left, YieldsName, has_label_by, label_from};
 
 use crate::defined::Defined;
@@ -75,7 +75,7 @@ fn has_label(index: &Index, key: &Key) -> bool
 
 /// The label of a name: its place among the symbols that have a label.
 pub(crate) fn label_number(index: &Index, name: &Name) -> Option<Defined>
-    requires { IsSmall (now_of index.now) }
+    requires { IsNumbered (now_of index.now) }
     ensures { target_of result ≡ label_from (now_of index.now) name.now 0 (now_of index.now).symbols }
 {
     let mut number: u32 = 0;

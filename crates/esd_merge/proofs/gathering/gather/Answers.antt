@@ -1,16 +1,16 @@
-use Rattle.std.proofs.Common.{option_map}
+use Rattle.std.proofs.Common.{map}
 use Rattle.std.specs.HashMap.{get}
 use Rattle.le_bytes.specs.Names.{name_eq}
 use Rattle.esd_index.specs.Keys.{sight}
 use Rattle.esd_index.specs.Contents.{now_of}
-use Rattle.esd_merge.specs.Gathered.{area_in, extent_in, label_step, control_step, area_step, extent_step}
+use Rattle.esd_merge.specs.Gathered.{area_in, extent_in, label_step, control_listed, area_step, extent_step}
 use Rattle.esd_merge.proofs.Walking.{next_walked}
 use Rattle.esd_merge.proofs.gathering.gather.Goals as goal
 
 pub loop-number-preserved : goal.loop-number-preserved
 loop-number-preserved c = (
-  λ y. next_walked (control_step y) c.loop-number.number c.args.reads.now c.index-reads-number.result c.as_slice-items.result.now (option_map sight (get name_eq c.loop-number.gathered.controls y)) _ _
-      c.loop-number-test.true c.index-reads-number.is c.as_slice-items.ensures (c.in_ok-note_items.ensures.controls y) (c.loop-number.invariant.0 y),
+  next_walked (control_listed (now_of c.args.index.now).controls) c.loop-number.number c.args.reads.now c.index-reads-number.result c.as_slice-items.result.now (map sight c.loop-number.gathered.controls.items) _ _
+      c.loop-number-test.true c.index-reads-number.is c.as_slice-items.ensures c.in_ok-note_items.ensures.controls c.loop-number.invariant.0,
   λ y. next_walked (area_step y) c.loop-number.number c.args.reads.now c.index-reads-number.result c.as_slice-items.result.now (area_in (get name_eq c.loop-number.gathered.areas y)) _ _
       c.loop-number-test.true c.index-reads-number.is c.as_slice-items.ensures (c.in_ok-note_items.ensures.areas y) (c.loop-number.invariant.1 y),
   λ y. next_walked (label_step (now_of c.args.index.now) c.args.reads.now y) c.loop-number.number c.args.reads.now c.index-reads-number.result c.as_slice-items.result.now (get name_eq c.loop-number.gathered.labels y) _ _

@@ -1,0 +1,50 @@
+-- Symbols that stand in a list where they are looked for.
+use Rattle.std.proofs.Common.{◌≡◌, ℕ, zero, suc, ◌+◌, ◌<◌, true, false, List, [], ◌∷◌, map, length, slice_get, Option, Some, None, option_map, refl, sym, ap, ◌∙◌, subst, arith}
+use Rattle.std.specs.Prelude.{position}
+use Rattle.std.specs.List.{position_from, IsDistinct}
+use Rattle.std.specs.Option.{option_map_or}
+use Rattle.std.proofs.lemmas.Map.Keys.{IsDistinct-head, IsDistinct-tail}
+use Rattle.std.proofs.lemmas.Option.{slice_get-map, slice_get_within}
+use Rattle.linking_model.specs.Kept.{Symbol, symbol_eq}
+use Rattle.esd_index.specs.declared.key.Key.{Key}
+use Rattle.esd_index.specs.Keys.{as_symbol}
+use Rattle.esd_merge.specs.Looked.{stands_at}
+use Rattle.esd_merge.proofs.Firsts.{symbol_refl, symbol_same, position_is}
+use Rattle.esd_merge.proofs.Each.{all_at}
+use Rattle.esd_merge.proofs.Small.{symbols_equal}
+
+there_case : (y : Symbol) (o : Option Symbol) → option_map_or (λ z. symbol_eq z y) o false ≡ true → o ≡ Some y
+there_case y None e = absurd cc
+there_case y (Some z) e = ap Some (symbol_same z y e)
+
+pub stands_there : (ys : List Symbol) (k : ℕ) (y : Symbol) → stands_at ys k y ≡ true → slice_get ys k ≡ Some y
+stands_there ys k y e = there_case y (slice_get ys k) e
+
+pub stands_within : (ys : List Symbol) (k : ℕ) (y : Symbol) → stands_at ys k y ≡ true → k < length ys
+stands_within ys k y e = slice_get_within ys k y (stands_there ys k y e)
+
+placed_from : (n : ℕ) (ys : List Symbol) (k : ℕ) (y : Symbol) → IsDistinct symbol_eq ys → slice_get ys k ≡ Some y → position_from (symbol_eq y) n ys ≡ Some (n + k)
+placed_from n [] k y d e = absurd cc
+placed_from n (x ∷ ys) zero y d e =
+    let same : x ≡ y = cc in
+    let here : symbol_eq y x ≡ true = subst (λ (z : Symbol). symbol_eq y z ≡ true) (sym same) (symbol_refl y) in
+    let none : n + 0 ≡ n = omega arith in
+    rw (here, none) refl
+placed_from n (x ∷ ys) (suc k) y d e =
+    let other : symbol_eq x y ≡ false = all_at (λ z. symbol_eq x z ≡ false) ys k y (IsDistinct-head symbol_eq x ys d) e in
+    let back : symbol_eq y x ≡ false = symbols_equal.symm y x ∙ other in
+    let more : n + 1 + k ≡ n + suc k = omega arith in
+    rw back (placed_from (n + 1) ys k y (IsDistinct-tail symbol_eq x ys d) e ∙ ap Some more)
+
+-- a symbol has the place at which it stands, where none stands twice
+pub placed : (ys : List Symbol) (k : ℕ) (y : Symbol) → IsDistinct symbol_eq ys → stands_at ys k y ≡ true → position (symbol_eq y) ys ≡ Some k
+placed ys k y d e =
+    let none : 0 + k ≡ k = omega arith in
+    position_is (symbol_eq y) ys ∙ placed_from 0 ys k y d (stands_there ys k y e) ∙ ap Some none
+
+key_case : (o : Option Key) (y : Symbol) → option_map_or (λ k. symbol_eq (as_symbol k) y) o false ≡ option_map_or (λ z. symbol_eq z y) (option_map as_symbol o) false
+key_case None y = refl
+key_case (Some k) y = refl
+
+pub key_stands : (ks : List Key) (ys : List Symbol) (k : ℕ) (y : Symbol) → map as_symbol ks ≡ ys → option_map_or (λ z. symbol_eq (as_symbol z) y) (slice_get ks k) false ≡ stands_at ys k y
+key_stands ks ys k y e = key_case (slice_get ks k) y ∙ ap (λ (o : Option Symbol). option_map_or (λ z. symbol_eq z y) o false) (sym (slice_get-map as_symbol ks k) ∙ ap (λ (zs : List Symbol). slice_get zs k) e)
