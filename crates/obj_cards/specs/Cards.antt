@@ -1,8 +1,10 @@
 -- A card of 80 columns: its one spelling, what 80 bytes give, and what can be spelled.
-use Rattle.std.specs.Prelude.{◌≡◌, ℕ, false, ◌==◌, if◌then◌else◌, List, [], ◌∷◌, length, slice_index, Result, Ok, Err}
+use Rattle.std.specs.Prelude.{◌≡◌, ℕ, false, ◌==◌, if◌then◌else◌, List, [], ◌∷◌, length, slice_index, Option, Some, None, Result, Ok, Err}
 use Rattle.std.specs.Str.{bytes_eq}
 use Rattle.obj_cards.specs.declared.card.Card.{Card}
 use Rattle.obj_cards.specs.declared.card.Card.TheVariants.{Esd, Txt, Rld, End, Sym, Statement, Comment}
+use Rattle.obj_cards.specs.declared.kind.CardKind.{CardKind}
+use Rattle.obj_cards.specs.declared.kind.CardKind.TheVariants as kinds
 use Rattle.obj_cards.specs.declared.fault.CardFault.{CardFault}
 use Rattle.obj_cards.specs.declared.fault.CardFault.TheVariants.{UnknownCard}
 use Rattle.obj_cards.specs.Columns.{columns, are_blank, blanks, card_with, head, esd_type, txt_type, rld_type, end_type, sym_type}
@@ -28,6 +30,17 @@ spelling Comment = card_with (92 ∷ [])
 abbrev pub as_card : {X : Type 0} → (X → Card) → Result X CardFault → Result Card CardFault
 as_card card (Ok x) = Ok (card x)
 as_card card (Err fault) = Err fault
+
+-- the card of a kind
+abbrev pub card_of_kind : Option CardKind → List ℕ → Result Card CardFault
+card_of_kind (Some kinds.Esd) card = as_card Esd (esd_card card)
+card_of_kind (Some kinds.Txt) card = as_card Txt (txt_card card)
+card_of_kind (Some kinds.Rld) card = as_card Rld (rld_card card)
+card_of_kind (Some kinds.End) card = Ok (End (end_card card))
+card_of_kind (Some kinds.Sym) card = Ok Sym
+card_of_kind (Some kinds.Statement) card = Ok (Statement card)
+card_of_kind (Some kinds.Comment) card = Ok Comment
+card_of_kind None card = Err UnknownCard
 
 -- a card with X'02' in column 1, by its type in columns 2 to 4
 abbrev pub object_card : List ℕ → List ℕ → Result Card CardFault

@@ -20,6 +20,9 @@ blank_name = record { 0 = blank_bytes }
 abbrev pub unused_esd : EsdItem
 unused_esd = record { name = blank_name; kind = Sd; address = 0; align = 0; length = 0 }
 
+abbrev pub unused_esd_card : EsdCard
+unused_esd_card = record { esdid = 0; count = 0; items = replicate 3 unused_esd }
+
 -- ---- spelling
 
 abbrev pub kind_code : EsdKind → ℕ

@@ -12,6 +12,9 @@ use Rattle.obj_cards.specs.Columns.{number_in, blanks, filled, head, rld_type}
 abbrev pub unused_rld : CardRld
 unused_rld = record { r = 0; p = 0; flag = 0; address = 0 }
 
+abbrev pub unused_rld_card : RldCard
+unused_rld_card = record { count = 0; items = replicate 13 unused_rld }
+
 -- the next item has the pointers of the item with this flag, and omits them
 abbrev pub is_shared : ℕ → Bool
 is_shared flag = bit_and flag 1 == 1

@@ -6,6 +6,10 @@ use Rattle.obj_cards.specs.declared.fault.CardFault.{CardFault}
 use Rattle.obj_cards.specs.declared.fault.CardFault.TheVariants.{BadCount}
 use Rattle.obj_cards.specs.Columns.{number_in, filled, head, txt_type}
 
+-- a card with no text in use
+abbrev pub unused_txt_card : TxtCard
+unused_txt_card = record { address = 0; esdid = 0; count = 0; bytes = replicate 56 0 }
+
 abbrev pub txt_text : TxtCard → List ℕ
 txt_text t = head txt_type (big_bytes 3 t.address) (big_bytes 2 t.count) (big_bytes 2 t.esdid) ++ take t.count t.bytes
 

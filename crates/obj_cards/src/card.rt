@@ -60,6 +60,15 @@ pub struct EsdCard {
     pub items: [EsdItem; 3],
 }
 
+impl EsdCard {
+    /// A card with no items in use.
+    pub const UNUSED: EsdCard = EsdCard {
+        esdid: 0,
+        count: 0,
+        items: [EsdItem::UNUSED; 3],
+    };
+}
+
 /// A card of text.
 #[derive(Clone, Copy, Debug, PartialEq, Eq)]
 pub struct TxtCard {
@@ -71,6 +80,16 @@ pub struct TxtCard {
     pub count: u8,
     /// The text. The bytes from `count` on are zero.
     pub bytes: [u8; 56],
+}
+
+impl TxtCard {
+    /// A card with no text in use.
+    pub const UNUSED: TxtCard = TxtCard {
+        address: 0,
+        esdid: 0,
+        count: 0,
+        bytes: [0; 56],
+    };
 }
 
 /// An item of the relocation dictionary: one term of an address constant.
@@ -104,6 +123,14 @@ pub struct RldCard {
     pub count: u8,
     /// The items, each with its pointers. Those from `count` on are `CardRld::UNUSED`.
     pub items: [CardRld; 13],
+}
+
+impl RldCard {
+    /// A card with no items in use.
+    pub const UNUSED: RldCard = RldCard {
+        count: 0,
+        items: [CardRld::UNUSED; 13],
+    };
 }
 
 /// Where an END card says that the program begins.

@@ -7,8 +7,9 @@ use crate::card::{EndCard, EndStart};
 use crate::layout::{BLANK, END, blank_head, characters, is_all_blank, padded_card, place};
 use le_bytes::{Name, num16, num24, num32, put16, put24, put32};
 
+/// What an END card says. There is none that is faulty by itself.
 #[tactic(auto, unfolding(crate::specs::End::end_card))]
-pub(crate) fn read_end(c: &[u8; 80]) -> EndCard
+pub fn read_end(c: &[u8; 80]) -> EndCard
     ensures exact { result ≡ end_card c.now }
     ensures in_range { IsEndCard result }
 {

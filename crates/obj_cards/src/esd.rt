@@ -3,29 +3,32 @@ ghost use Rattle.std.specs.Prelude.{◌≡◌, ◌*◌, ◌+◌, ◌-◌, ◌≤
 ghost use Rattle.std.specs.List.{AllByRecursion};
 ghost use Rattle.std.specs.Option.{option_map};
 ghost use Rattle.obj_cards.specs.Columns.{card_with, filled};
-ghost use Rattle.obj_cards.specs.Esd.{IsEsdCard, IsEsdItem, align_byte, esd_bytes, esd_card, esd_item, esd_items, esd_text, is_esd_size, item_of_kind, kind_code, kind_of, name_in, or_bad_type, suits, unused_esd};
+ghost use Rattle.obj_cards.specs.Faults.{filled_card};
+ghost use Rattle.obj_cards.specs.Esd.{IsEsdCard, IsEsdItem, align_byte, esd_bytes, esd_card, esd_item, esd_items, esd_text, is_esd_size, item_of_kind, kind_code, kind_of, name_in, or_bad_type, suits, unused_esd, unused_esd_card};
 
 use crate::card::{EsdCard, EsdItem, EsdKind};
 use crate::fault::CardFault;
 use crate::layout::{BLANK, ESD, blank_head, characters, padded_card, place};
 use le_bytes::{Name, num16, num24, put16, put24};
 
-/// The card, or the first of BadCount and BadEsdType.
+/// Reads an ESD card into a card that is not in use.
+///
+/// # Errors
+/// The first of BadCount and BadEsdType. The card is of no use then.
 #[tactic(auto, unfolding(crate::specs::Esd::esd_card))]
-pub(crate) fn read_esd(c: &[u8; 80]) -> Result<EsdCard, CardFault>
-    ensures exact { result ≡ esd_card c.now }
-    ensures in_range { IfOk result IsEsdCard }
+pub fn read_esd(c: &[u8; 80], card: &mut EsdCard) -> Result<(), CardFault>
+    requires unused { card.old ≡ unused_esd_card }
+    ensures exact { filled_card card.new result ≡ esd_card c.now }
+    ensures in_range { IfOk (filled_card card.new result) IsEsdCard }
 {
     let size = num16(c, 10);
     if !is_size(size) {
         return Err(CardFault::BadCount);
     }
-    let items = read_items(size as usize / 16, &c[16..])?;
-    Ok(EsdCard {
-        esdid: num16(c, 14),
-        count: (size / 16) as u8,
-        items,
-    })
+    read_items(size as usize / 16, &c[16..], &mut card.items)?;
+    card.esdid = num16(c, 14);
+    card.count = (size / 16) as u8;
+    Ok(())
 }
 
 /// Whether the count is that of one, two or three items.
@@ -35,22 +38,22 @@ fn is_size(size: u32) -> bool
     matches!(size, 16 | 32 | 48)
 }
 
-/// The first items of the bytes, 16 bytes each.
-fn read_items(count: usize, bytes: &[u8]) -> Result<[EsdItem; 3], CardFault>
+/// Reads the first items of the bytes, 16 bytes each, into places that are not in use.
+fn read_items(count: usize, bytes: &[u8], items: &mut [EsdItem; 3]) -> Result<(), CardFault>
     requires most { count ≤ 3 }
     requires room { 16 * count ≤ length bytes.now }
-    ensures exact { result ≡ or_bad_type (option_map (filled 3 unused_esd) (esd_items count bytes.now)) }
-    ensures each { IfOk result (λ items. AllByRecursion IsEsdItem (take count items)) }
-    ensures unused { IfOk result (λ items. drop count items ≡ replicate (3 - count) unused_esd) }
+    requires unused { items.old ≡ replicate 3 unused_esd }
+    ensures exact { filled_card items.new result ≡ or_bad_type (option_map (filled 3 unused_esd) (esd_items count bytes.now)) }
+    ensures each { IfOk (filled_card items.new result) (λ items. AllByRecursion IsEsdItem (take count items)) }
+    ensures unused { IfOk (filled_card items.new result) (λ items. drop count items ≡ replicate (3 - count) unused_esd) }
 {
-    let mut items = [EsdItem::UNUSED; 3];
     let mut rest = bytes;
     for k in 0..count {
         let (item, after) = rest.split_at(16);
         items[k] = read_item(item)?;
         rest = after;
     }
-    Ok(items)
+    Ok(())
 }
 
 #[tactic(auto, unfolding(crate::specs::Esd::esd_item))]

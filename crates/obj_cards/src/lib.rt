@@ -8,6 +8,7 @@ mod card;
 mod end;
 mod esd;
 mod fault;
+mod kind;
 mod layout;
 mod reading;
 mod rld;
@@ -15,8 +16,13 @@ mod txt;
 mod writing;
 
 pub use card::{Card, CardRld, EndCard, EndStart, EsdCard, EsdItem, EsdKind, RldCard, TxtCard};
+pub use end::read_end;
+pub use esd::read_esd;
 pub use fault::CardFault;
+pub use kind::{CardKind, kind_of_card};
 pub use reading::read_card;
+pub use rld::read_rld;
+pub use txt::read_txt;
 pub use writing::write_card;
 
 #[cfg(test)]

@@ -1,13 +1,16 @@
 //! Reading a card.
-ghost use Rattle.std.specs.Prelude.{◌≡◌, IfOk, slice_index};
-ghost use Rattle.obj_cards.specs.Columns.{columns};
-ghost use Rattle.obj_cards.specs.Cards.{IsCard, card_of, object_card, statement_card};
+ghost use Rattle.std.specs.Prelude.{◌≡◌, IfOk};
+ghost use Rattle.obj_cards.specs.declared.card.Card.TheVariants.{Esd, Rld, Txt};
+ghost use Rattle.obj_cards.specs.Cards.{IsCard, as_card, card_of};
+ghost use Rattle.obj_cards.specs.Esd.{esd_card};
+ghost use Rattle.obj_cards.specs.Rld.{rld_card};
+ghost use Rattle.obj_cards.specs.Txt.{txt_card};
 
-use crate::card::Card;
+use crate::card::{Card, EsdCard, RldCard, TxtCard};
 use crate::end::read_end;
 use crate::esd::read_esd;
 use crate::fault::CardFault;
-use crate::layout::{ASTERISK, BLANK, END, ESD, OBJECT, RLD, SYM, TXT, is_all_blank};
+use crate::kind::{CardKind, kind_of_card};
 use crate::rld::read_rld;
 use crate::txt::read_txt;
 
@@ -23,50 +26,52 @@ use crate::txt::read_txt;
 ///   8 bytes, or a label or reference a name of blanks.
 /// - BadFlag: an RLD flag has bits without a meaning, or the last item shares its pointers with one that
 ///   is not there.
-#[tactic(auto, unfolding(crate::specs::Cards::card_of))]
 pub fn read_card(c: &[u8; 80]) -> Result<Card, CardFault>
     ensures exact { result ≡ card_of c.now }
     // What is read can be written, so each field is in its range.
     ensures in_range { IfOk result IsCard }
 {
-    match c[0] {
-        OBJECT => object(c),
-        BLANK => Ok(statement(c)),
-        ASTERISK => Ok(Card::Comment),
-        _ => Err(CardFault::UnknownCard),
+    match kind_of_card(c) {
+        Some(CardKind::Esd) => esd(c),
+        Some(CardKind::Txt) => txt(c),
+        Some(CardKind::Rld) => rld(c),
+        Some(CardKind::End) => Ok(Card::End(read_end(c))),
+        Some(CardKind::Sym) => Ok(Card::Sym),
+        Some(CardKind::Statement) => Ok(Card::Statement(*c)),
+        Some(CardKind::Comment) => Ok(Card::Comment),
+        None => Err(CardFault::UnknownCard),
     }
 }
 
-/// A card that begins with a blank.
-fn statement(c: &[u8; 80]) -> Card
-    requires { slice_index c.now 0 ≡ 64 }
-    ensures exact { result ≡ statement_card c.now }
-    ensures in_range { IsCard result }
-{
-    if is_all_blank(&c[..71]) {
-        Card::Comment
-    } else {
-        Card::Statement(*c)
-    }
-}
-
-/// A card with X'02' in column 1.
-fn object(c: &[u8; 80]) -> Result<Card, CardFault>
-    ensures exact { result ≡ object_card (columns 2 4 c.now) c.now }
+fn esd(c: &[u8; 80]) -> Result<Card, CardFault>
+    ensures exact { result ≡ as_card Esd (esd_card c.now) }
     ensures in_range { IfOk result IsCard }
 {
-    let kind = &c[1..4];
-    if kind == ESD.as_slice() {
-        Ok(Card::Esd(read_esd(c)?))
-    } else if kind == TXT.as_slice() {
-        Ok(Card::Txt(read_txt(c)?))
-    } else if kind == RLD.as_slice() {
-        Ok(Card::Rld(read_rld(c)?))
-    } else if kind == END.as_slice() {
-        Ok(Card::End(read_end(c)))
-    } else if kind == SYM.as_slice() {
-        Ok(Card::Sym)
-    } else {
-        Err(CardFault::UnknownCard)
+    let mut card = EsdCard::UNUSED;
+    match read_esd(c, &mut card) {
+        Ok(()) => Ok(Card::Esd(card)),
+        Err(fault) => Err(fault),
+    }
+}
+
+fn txt(c: &[u8; 80]) -> Result<Card, CardFault>
+    ensures exact { result ≡ as_card Txt (txt_card c.now) }
+    ensures in_range { IfOk result IsCard }
+{
+    let mut card = TxtCard::UNUSED;
+    match read_txt(c, &mut card) {
+        Ok(()) => Ok(Card::Txt(card)),
+        Err(fault) => Err(fault),
+    }
+}
+
+fn rld(c: &[u8; 80]) -> Result<Card, CardFault>
+    ensures exact { result ≡ as_card Rld (rld_card c.now) }
+    ensures in_range { IfOk result IsCard }
+{
+    let mut card = RldCard::UNUSED;
+    match read_rld(c, &mut card) {
+        Ok(()) => Ok(Card::Rld(card)),
+        Err(fault) => Err(fault),
     }
 }

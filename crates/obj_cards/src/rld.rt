@@ -1,49 +1,54 @@
 //! RLD cards.
 ghost use Rattle.std.specs.Prelude.{◌≡◌, ◌+◌, ◌<◌, ◌≤◌, ◌++◌, length, take, IfOk, IfErr, Some, None, Ok, Err, is_some, if◌then◌else◌};
 ghost use Rattle.obj_cards.specs.Columns.{card_with};
-ghost use Rattle.obj_cards.specs.Rld.{IsCardRld, IsRldCard, field_bytes, is_rld_flag, is_shared, pointer_bytes, pointers_after, rld_bytes, rld_card, rld_items, rld_text, rld_with, with_first};
+ghost use Rattle.obj_cards.specs.Faults.{filled_card};
+ghost use Rattle.obj_cards.specs.Rld.{IsCardRld, IsRldCard, field_bytes, is_rld_flag, is_shared, pointer_bytes, pointers_after, rld_bytes, rld_card, rld_items, rld_text, rld_with, unused_rld_card, with_first};
 
 use crate::card::{CardRld, RldCard};
 use crate::fault::CardFault;
 use crate::layout::{BLANK, RLD, blank_head, padded_card};
 use le_bytes::{num16, num24, put16, put24};
 
-/// The card, or the first of BadCount and BadFlag.
+/// Reads an RLD card into a card that is not in use.
+///
+/// # Errors
+/// The first of BadCount and BadFlag. The card is of no use then.
 #[tactic(auto, unfolding(crate::specs::Rld::rld_card))]
-pub(crate) fn read_rld(c: &[u8; 80]) -> Result<RldCard, CardFault>
-    ensures exact { result ≡ rld_card c.now }
-    ensures in_range { IfOk result IsRldCard }
+pub fn read_rld(c: &[u8; 80], card: &mut RldCard) -> Result<(), CardFault>
+    requires unused { card.old ≡ unused_rld_card }
+    ensures exact { filled_card card.new result ≡ rld_card c.now }
+    ensures in_range { IfOk (filled_card card.new result) IsRldCard }
 {
     let count = num16(c, 10);
     if count > 56 {
         return Err(CardFault::BadCount);
     }
-    read_items(&c[16..16 + count as usize])
+    read_items(&c[16..16 + count as usize], card)
 }
 
-/// The items of the bytes, from the left.
-fn read_items(bytes: &[u8]) -> Result<RldCard, CardFault>
-    requires { length bytes.now ≤ 56 }
-    ensures exact { result ≡ rld_with (rld_items None bytes.now) }
-    ensures in_range { IfOk result IsRldCard }
+/// Reads the items of the bytes, from the left.
+fn read_items(bytes: &[u8], card: &mut RldCard) -> Result<(), CardFault>
+    requires few { length bytes.now ≤ 56 }
+    requires unused { card.old ≡ unused_rld_card }
+    ensures exact { filled_card card.new result ≡ rld_with (rld_items None bytes.now) }
+    ensures in_range { IfOk (filled_card card.new result) IsRldCard }
 {
-    let mut items = [CardRld::UNUSED; 13];
     let mut count: usize = 0;
     let mut shared = None;
     let mut rest = bytes;
     while !rest.is_empty() {
         let (item, after) = first_item(shared, rest)?;
-        items[count] = item;
+        card.items[count] = item;
         count += 1;
         shared = pointers_after(&item);
         rest = after;
     }
     match shared {
         Some(_) => Err(CardFault::BadFlag),
-        None => Ok(RldCard {
-            count: count as u8,
-            items,
-        }),
+        None => {
+            card.count = count as u8;
+            Ok(())
+        }
     }
 }
 

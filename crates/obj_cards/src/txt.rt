@@ -1,38 +1,42 @@
 //! TXT cards.
-ghost use Rattle.std.specs.Prelude.{◌≡◌, ◌≤◌, Ok, length, take, IfOk};
+ghost use Rattle.std.specs.Prelude.{◌≡◌, ◌≤◌, Ok, length, replicate, take, IfOk};
 ghost use Rattle.obj_cards.specs.Columns.{card_with, filled};
-ghost use Rattle.obj_cards.specs.Txt.{IsTxtCard, txt_card, txt_text};
+ghost use Rattle.obj_cards.specs.Faults.{filled_card};
+ghost use Rattle.obj_cards.specs.Txt.{IsTxtCard, txt_card, txt_text, unused_txt_card};
 
 use crate::card::TxtCard;
 use crate::fault::CardFault;
 use crate::layout::{TXT, blank_head, padded_card, place};
 use le_bytes::{num16, num24, put16, put24};
 
-/// The card, or BadCount.
+/// Reads a TXT card into a card that is not in use.
+///
+/// # Errors
+/// BadCount. The card stays as it was then.
 #[tactic(auto, unfolding(crate::specs::Txt::txt_card))]
-pub(crate) fn read_txt(c: &[u8; 80]) -> Result<TxtCard, CardFault>
-    ensures exact { result ≡ txt_card c.now }
-    ensures in_range { IfOk result IsTxtCard }
+pub fn read_txt(c: &[u8; 80], card: &mut TxtCard) -> Result<(), CardFault>
+    requires unused { card.old ≡ unused_txt_card }
+    ensures exact { filled_card card.new result ≡ txt_card c.now }
+    ensures in_range { IfOk (filled_card card.new result) IsTxtCard }
 {
     let count = num16(c, 10);
     if count > 56 {
         return Err(CardFault::BadCount);
     }
-    Ok(TxtCard {
-        address: num24(c, 5),
-        esdid: num16(c, 14),
-        count: count as u8,
-        bytes: padded_text(&c[16..16 + count as usize]),
-    })
+    card.address = num24(c, 5);
+    card.esdid = num16(c, 14);
+    card.count = count as u8;
+    pad(&mut card.bytes, &c[16..16 + count as usize]);
+    Ok(())
 }
 
-fn padded_text(text: &[u8]) -> [u8; 56]
-    requires { length text.now ≤ 56 }
-    ensures { result ≡ filled 56 0 text.now }
+/// Puts text before zeros.
+fn pad(bytes: &mut [u8; 56], text: &[u8])
+    requires few { length text.now ≤ 56 }
+    requires zeros { bytes.old ≡ replicate 56 0 }
+    ensures { bytes.new ≡ filled 56 0 text.now }
 {
-    let mut bytes = [0; 56];
-    place(&mut bytes, 0, text);
-    bytes
+    place(bytes, 0, text);
 }
 
 pub(crate) fn write_txt(t: &TxtCard) -> [u8; 80]
