@@ -1,5 +1,6 @@
 //! Why a deck is refused.
 use le_bytes::CardWhat;
+use obj_cards::CardFault;
 use std::alloc::{AllocError, AllocFailed};
 
 /// The first faulty card of a deck, by its place from 0, or want of memory.
@@ -61,5 +62,17 @@ impl From<AllocError> for Wrong {
 
     fn from(_refused: AllocError) -> Wrong {
         Wrong::Memory
+    }
+}
+
+impl From<CardFault> for Wrong {
+    ghost use Rattle.std.specs.Prelude.{◌≡◌};
+    ghost use Rattle.obj_cards.specs.Faults.{what_of};
+    ghost use Rattle.obj_read.specs.declared.fault.Wrong.TheVariants.{Card};
+
+    ghost from_gives = { λ fault e. e ≡ Card (what_of fault) };
+
+    fn from(fault: CardFault) -> Wrong {
+        Wrong::Card(fault.what())
     }
 }

@@ -1,10 +1,15 @@
 //! One card after others: its fault, or the facts with what it says.
-ghost use Rattle.std.specs.Prelude.{◌≡◌, ◌+◌, ◌<◌, ◌≤◌, ◌^◌, ◌++◌, ◌∷◌, [], take, length, IfOk, OnOk};
-ghost use Rattle.obj_cards.specs.Cards.{card_of, IsCard};
+ghost use Rattle.std.specs.Prelude.{◌≡◌, ◌+◌, ◌<◌, ◌≤◌, ◌^◌, ◌++◌, ◌∷◌, [], take, length, IfOk, Ok, OnOk};
+ghost use Rattle.obj_cards.specs.declared.card.Card.TheVariants as Card;
+ghost use Rattle.obj_cards.specs.Cards.{as_card, card_of};
+ghost use Rattle.obj_cards.specs.End.{IsEndCard};
+ghost use Rattle.obj_cards.specs.Esd.{esd_card};
+ghost use Rattle.obj_cards.specs.Rld.{rld_card};
+ghost use Rattle.obj_cards.specs.Txt.{txt_card};
 ghost use Rattle.obj_read.specs.Facts.{numbered};
 ghost use Rattle.obj_read.specs.Faults.{item_fault, items_fault, term_fault, terms_fault, text_fault};
 ghost use Rattle.obj_read.specs.Kept.{StaysKept};
-ghost use Rattle.obj_read.specs.Steps.{Adds, Steps, step_of, stepped, unless, fault_in};
+ghost use Rattle.obj_read.specs.Steps.{Adds, Steps, step_of, stepped};
 
 use crate::dictionary::Dictionary;
 use crate::ending::fault_at_end;
@@ -15,7 +20,10 @@ use crate::kinds::is_label;
 use crate::numbered::Numbered;
 use crate::terms::Terms;
 use le_bytes::CardWhat;
-use obj_cards::{Card, CardRld, EndCard, EndStart, EsdItem, TxtCard, read_card};
+use obj_cards::{
+    CardKind, CardRld, EndCard, EndStart, EsdCard, EsdItem, RldCard, TxtCard, kind_of_card, read_end,
+    read_esd, read_rld, read_txt,
+};
 
 /// What a card makes of the facts of the cards before it: the facts with the card, and where the
 /// program begins if the card ends the deck. Its items have their lengths then. Contracts speak of
@@ -36,30 +44,55 @@ pub fn read_step(facts: &mut Facts, bytes: &[u8; 80]) -> Result<Option<EndStart>
     ensures kept { IfOk (stepped facts.new result) (StaysKept facts.old) }
     ensures few { OnOk result (length facts.new.items ≤ length facts.old.items + 3) }
 {
-    match &read_card(bytes) {
-        Err(fault) => Err(Wrong::Card(fault.what())),
-        Ok(card) => add_card(facts, card),
+    match kind_of_card(bytes) {
+        Some(CardKind::Esd) => esd_step(facts, bytes),
+        Some(CardKind::Txt) => txt_step(facts, bytes),
+        Some(CardKind::Rld) => rld_step(facts, bytes),
+        Some(CardKind::End) => end_step(facts, &read_end(bytes)),
+        Some(CardKind::Sym) => Ok(None),
+        Some(CardKind::Statement | CardKind::Comment) => Err(Wrong::Card(CardWhat::NoEnd)),
+        None => Err(Wrong::Card(CardWhat::UnknownCard)),
     }
 }
 
-/// Adds a card that has no fault of its own.
-fn add_card(facts: &mut Facts, card: &Card) -> Result<Option<EndStart>, Wrong>
-    requires { IsCard card.now }
-    ensures exact { Steps (unless facts.old card.now (fault_in facts.old card.now)) (stepped facts.new result) }
+fn esd_step(facts: &mut Facts, bytes: &[u8; 80]) -> Result<Option<EndStart>, Wrong>
+    ensures exact { Steps (step_of facts.old (as_card Card.Esd (esd_card bytes.now))) (stepped facts.new result) }
+    ensures kept { IfOk (stepped facts.new result) (StaysKept facts.old) }
     ensures few { OnOk result (length facts.new.items ≤ length facts.old.items + 3) }
 {
-    match card {
-        Card::Esd(e) => add_items(&mut facts.items, e.esdid, &e.items[..usize::from(e.count)])?,
-        Card::Txt(t) => add_text(facts, t)?,
-        Card::Rld(r) => add_terms(
-            &facts.items,
-            &mut facts.terms,
-            &r.items[..usize::from(r.count)],
-        )?,
-        Card::End(e) => return add_end(facts, e),
-        Card::Sym => {}
-        _ => return Err(Wrong::Card(CardWhat::NoEnd)),
-    }
+    let mut card = EsdCard::UNUSED;
+    read_esd(bytes, &mut card)?;
+    add_items(
+        &mut facts.items,
+        card.esdid,
+        &card.items[..usize::from(card.count)],
+    )?;
+    Ok(None)
+}
+
+fn txt_step(facts: &mut Facts, bytes: &[u8; 80]) -> Result<Option<EndStart>, Wrong>
+    ensures exact { Steps (step_of facts.old (as_card Card.Txt (txt_card bytes.now))) (stepped facts.new result) }
+    ensures kept { IfOk (stepped facts.new result) (StaysKept facts.old) }
+    ensures few { OnOk result (length facts.new.items ≡ length facts.old.items) }
+{
+    let mut card = TxtCard::UNUSED;
+    read_txt(bytes, &mut card)?;
+    add_text(facts, &card)?;
+    Ok(None)
+}
+
+fn rld_step(facts: &mut Facts, bytes: &[u8; 80]) -> Result<Option<EndStart>, Wrong>
+    ensures exact { Steps (step_of facts.old (as_card Card.Rld (rld_card bytes.now))) (stepped facts.new result) }
+    ensures kept { IfOk (stepped facts.new result) (StaysKept facts.old) }
+    ensures few { OnOk result (length facts.new.items ≡ length facts.old.items) }
+{
+    let mut card = RldCard::UNUSED;
+    read_rld(bytes, &mut card)?;
+    add_terms(
+        &facts.items,
+        &mut facts.terms,
+        &card.items[..usize::from(card.count)],
+    )?;
     Ok(None)
 }
 
@@ -135,8 +168,10 @@ fn add_term(items: &Dictionary, terms: &mut Terms, term: &CardRld) -> Result<(),
 }
 
 /// Adds the END card: the items get their lengths first.
-fn add_end(facts: &mut Facts, end: &EndCard) -> Result<Option<EndStart>, Wrong>
-    ensures exact { Steps (unless facts.old (Card.End end.now) (fault_in facts.old (Card.End end.now))) (stepped facts.new result) }
+fn end_step(facts: &mut Facts, end: &EndCard) -> Result<Option<EndStart>, Wrong>
+    requires { IsEndCard end.now }
+    ensures exact { Steps (step_of facts.old (Ok (Card.End end.now))) (stepped facts.new result) }
+    ensures kept { IfOk (stepped facts.new result) (StaysKept facts.old) }
     ensures few { OnOk result (length facts.new.items ≡ length facts.old.items) }
 {
     if let Some(length) = end.length {
