@@ -21,8 +21,8 @@ use crate::numbered::Numbered;
 use crate::terms::Terms;
 use le_bytes::CardWhat;
 use obj_cards::{
-    CardKind, CardRld, EndCard, EndStart, EsdCard, EsdItem, RldCard, TxtCard, kind_of_card, read_end,
-    read_esd, read_rld, read_txt,
+    CardKind, CardRld, EndCard, EndStart, EsdCard, EsdItem, RldCard, TxtCard, kind_of_card,
+    read_end, read_esd, read_rld, read_txt,
 };
 
 /// What a card makes of the facts of the cards before it: the facts with the card, and where the
