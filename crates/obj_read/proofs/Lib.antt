@@ -6,6 +6,7 @@ pub mod Leaders
 pub mod Gathered
 pub mod Adding
 pub mod Joined
+pub mod Apart
 pub mod Kept
 pub mod Found
 pub mod Labels

@@ -4,7 +4,13 @@ use Rattle.std.specs.HashMap.{get, HashMap}
 use Rattle.obj_cards.specs.declared.card.CardRld.{CardRld}
 use Rattle.obj_read.specs.declared.terms.BytePlace.{BytePlace}
 use Rattle.obj_read.specs.Faults.{covers}
+use Rattle.obj_read.specs.Flags.{length_of_flag}
 use Rattle.obj_read.specs.Indexed.{or_place}
+
+-- the fields of both terms share a byte
+abbrev pub touches : CardRld → CardRld → Bool
+touches f g =
+    f.p == g.p && nat_lt g.address (f.address + length_of_flag f.flag) && nat_lt f.address (g.address + length_of_flag g.flag)
 
 abbrev pub byte_eq : BytePlace → BytePlace → Bool
 byte_eq a b = nat_eq a.section b.section && nat_eq a.byte b.byte

@@ -149,9 +149,14 @@ fn clashes_at(before: &Terms, f: &CardRld, byte: u64) -> bool
     }
 }
 
+#[tactic(auto, using(crate::proofs::Apart::overlaps_none))]
 fn overlaps(before: &Terms, f: &CardRld) -> bool
     ensures { result ≡ overlaps before.now f.now }
 {
+    // Most fields lie apart, and then no byte has to be looked for.
+    if before.lie_apart(f) {
+        return false;
+    }
     let from = u64::from(f.address);
     (from..from + u64::from(length_of(f))).any(|byte| clashes_at(before, f, byte))
 }

@@ -1,6 +1,7 @@
 //! The terms of the address constants of a deck, found by the bytes of their fields.
-ghost use Rattle.std.specs.Prelude.{◌≡◌, ◌++◌, ◌∷◌, [], find, IfOk, OnOk};
-ghost use Rattle.obj_read.specs.Covered.{IsCovered, CoversByte, CoversBytes};
+ghost use Rattle.std.specs.Prelude.{◌≡◌, ◌+◌, ◌++◌, ◌∷◌, [], find, true, false, IfOk, OnOk};
+ghost use Rattle.std.specs.List.{list_any};
+ghost use Rattle.obj_read.specs.Covered.{IsCovered, CoversByte, CoversBytes, touches};
 ghost use Rattle.obj_read.specs.Faults.{covers};
 ghost use Rattle.obj_read.specs.Flags.{length_of_flag};
 
@@ -97,6 +98,13 @@ impl Terms {
         }
     }
 
+    /// Whether the terms are few and none has a byte of its field in that of `f`.
+    pub fn lie_apart(&self, f: &CardRld) -> bool
+        ensures { result ≡ true → list_any (touches f.now) self.now ≡ false }
+    {
+        self.covered.is_none() && !touch(self.terms.as_slice(), f)
+    }
+
     /// The terms, in order.
     pub fn as_slice(&self) -> &[CardRld]
         ensures { result.now ≡ self.now }
@@ -115,6 +123,27 @@ fn first_covering(terms: &[CardRld], section: u32, byte: u64) -> Option<CardRld>
         }
     }
     None
+}
+
+/// Whether one of the terms has a byte of its field in that of `f`.
+fn touch(terms: &[CardRld], f: &CardRld) -> bool
+    ensures { result ≡ list_any (touches f.now) terms.now }
+{
+    terms.iter().any(|g| touches(f, g))
+}
+
+/// Whether the fields of both terms share a byte.
+fn touches(f: &CardRld, g: &CardRld) -> bool
+    ensures { result ≡ touches f.now g.now }
+{
+    f.p == g.p && u64::from(g.address) < end_of(f) && u64::from(f.address) < end_of(g)
+}
+
+/// The address behind the field of the term.
+fn end_of(f: &CardRld) -> u64
+    ensures { result ≡ f.now.address + length_of_flag f.now.flag }
+{
+    u64::from(f.address) + u64::from(length_of(f))
 }
 
 /// Whether the byte of the section stands in the field of the term.
