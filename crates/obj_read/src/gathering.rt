@@ -1,5 +1,5 @@
 //! One card after others: its fault, or the facts with what it says.
-ghost use Rattle.std.specs.Prelude.{◌≡◌, ◌+◌, ◌<◌, ◌≤◌, ◌^◌, ◌++◌, ◌∷◌, [], take, length, IfOk, Ok, OnOk};
+ghost use Rattle.std.specs.Prelude.{◌≡◌, ◌+◌, ◌<◌, ◌≤◌, ◌^◌, ◌++◌, ◌∷◌, [], length, IfOk, Ok, OnOk};
 ghost use Rattle.obj_cards.specs.declared.card.Card.TheVariants as Card;
 ghost use Rattle.obj_cards.specs.Cards.{as_card, card_of};
 ghost use Rattle.obj_cards.specs.End.{IsEndCard};

@@ -1,4 +1,4 @@
-use Rattle.std.proofs.Common.{rules, ◌≡◌, Ok, None}
+use Rattle.std.proofs.Common.{rules, Ok, None}
 use Rattle.obj_cards.specs.declared.card.Card.TheVariants.{Rld}
 use Rattle.obj_read.specs.Steps.{Steps, step_of}
 use Rattle.obj_read.specs.declared.gathering.Step.{Step}
