@@ -1,3 +1,5 @@
 pub mod Lists
+pub mod Parts
 pub mod Rising
+pub mod Seeing
 pub mod Sorting

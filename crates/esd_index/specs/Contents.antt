@@ -20,12 +20,12 @@ pub record Contents : Type 0 where
 -- what the index says
 abbrev pub now_of : Index → Contents
 now_of i = record {
-  symbols = i.symbols.all;
-  sections = i.sections.all;
+  symbols = i.table.symbols.all;
+  sections = i.table.sections.all;
   registers = i.registers.all;
-  controls = i.controls.all;
+  controls = i.table.controls.all;
   labels = i.labels.all;
-  strong = i.strong.all;
+  strong = i.table.strong.all;
   weak = i.weak.all;
   named = i.named.all;
   labelled = i.labelled.all;
@@ -34,12 +34,12 @@ now_of i = record {
 -- what it said at the last mark
 abbrev pub marked_of : Index → Contents
 marked_of i = record {
-  symbols = i.symbols.marked;
-  sections = i.sections.marked;
+  symbols = i.table.symbols.marked;
+  sections = i.table.sections.marked;
   registers = i.registers.marked;
-  controls = i.controls.marked;
+  controls = i.table.controls.marked;
   labels = i.labels.marked;
-  strong = i.strong.marked;
+  strong = i.table.strong.marked;
   weak = i.weak.marked;
   named = i.named.marked;
   labelled = i.labelled.marked;

@@ -4,5 +4,7 @@ pub mod Marked
 pub mod Modules
 pub mod Noted
 pub mod Ordered
+pub mod Parts
 pub mod Sorted
 pub mod Steps
+pub mod Tables

@@ -12,3 +12,7 @@ pub record Marked : Type 0 where
 abbrev pub with_some : List Symbol → Option Symbol → List Symbol
 with_some ys None = ys
 with_some ys (Some y) = with_first symbol_eq ys y
+
+-- the list with y after it where it is not among it; what was marked stays
+abbrev pub with_put : Marked → Symbol → Marked
+with_put m y = record { all = with_first symbol_eq m.all y; marked = m.marked }

@@ -53,6 +53,10 @@ kept_flags controls (x ∷ xs) =
 abbrev pub with_control : Contents → Item → Contents
 with_control c x = record c { controls = with_some c.controls (named_if is_sd x) }
 
+-- the contents with the symbol of an item, and the name of an SD item
+abbrev pub with_seen : Contents → Sight → Contents
+with_seen c x = record c { symbols = with_some c.symbols (symbol_of x); controls = with_some c.controls (named_if is_sd x.item) }
+
 -- ---- items
 
 -- an item, with the marks of its module's items

@@ -34,7 +34,7 @@ impl Index {
     /// # Errors
     /// Clash exactly where an item gives its name a second meaning, with the name of the first. Want of
     /// memory.
-    #[tactic(auto, unfolding(crate::specs::Modules::noted_module))]
+    #[tactic(auto, unfolding(crate::specs::Modules::noted_module), using(crate::proofs::Seeing::seen_first))]
     pub fn note_module(
         &mut self,
         alloc: Global,
@@ -45,7 +45,7 @@ impl Index {
         ensures notes { NotesModule m.now (now_of self.old) (noted_module of_module segment m.now (now_of self.old)) result (now_of self.new) }
         ensures marked { marked_of self.new ≡ marked_of self.old }
     {
-        let kept = self.keep_items(alloc, m.items.as_slice())?;
+        let kept = self.keep_items(alloc, of_module, segment, m.items.as_slice())?;
         self.note_items(of_module, segment, m.items.as_slice(), kept.as_slice())?;
         self.note_kept_constants(alloc, m, kept.as_slice())?;
         Ok(kept)
@@ -55,6 +55,6 @@ impl Index {
     pub fn count(&self) -> u64
         ensures { result ≡ length (now_of self.now).symbols + length (now_of self.now).registers }
     {
-        self.symbols.len() as u64 + self.registers.len() as u64
+        self.table.symbols().len() as u64 + self.registers.len() as u64
     }
 }

@@ -5,9 +5,10 @@ ghost use Rattle.sym_mod.specs.Kinds.{is_sd, kind_of};
 ghost use Rattle.linking_model.specs.Kept.{symbol_eq, ByName, name_in};
 ghost use Rattle.esd_index.specs.Keys.{as_symbol, sight};
 ghost use Rattle.esd_index.specs.Contents.{now_of, marked_of};
-ghost use Rattle.esd_index.specs.Steps.{with_sight, label_meant, with_control, with_target, clashes_over, is_kept_over};
+ghost use Rattle.esd_index.specs.Steps.{with_sight, label_meant, with_seen, with_target, clashes_over, is_kept_over};
 
 use crate::key::{Key, Sighted};
+use crate::symbol_table::SymbolTable;
 use crate::symbols::Symbols;
 use std::alloc::{AllocError, Global};
 use sym_mod::{Item, ItemKind, SymTarget, SymTerm};
@@ -16,21 +17,19 @@ use sym_mod::{Item, ItemKind, SymTarget, SymTerm};
 /// last marked.
 #[derive(Drop)]
 pub struct Index {
-    /// In order of first appearance.
-    pub symbols: Symbols,
-    /// In the order of the first section item.
-    pub sections: Symbols,
+    /// The symbols, in order of first appearance, and which of them are sections, names of SD items, and
+    /// names of references that are not weak.
+    pub table: SymbolTable,
     pub registers: Symbols,
-    /// The names of SD items.
-    pub controls: Symbols,
     /// The names of labels whose section is kept.
     pub labels: Symbols,
-    /// The names of references that are not weak, and of those that are.
-    pub strong: Symbols,
+    /// The names of weak references.
     pub weak: Symbols,
     /// The names to which kept constants refer, by the name and by a label item.
     pub named: Symbols,
     pub labelled: Symbols,
+    /// Where the symbol of each item of a module was found among all, 0 where it has none.
+    pub(crate) found: Vec<usize>,
 }
 
 impl Index {
@@ -40,15 +39,13 @@ impl Index {
         ensures marked { marked_of result ≡ now_of result }
     {
         Index {
-            symbols: Symbols::new(alloc),
-            sections: Symbols::new(alloc),
+            table: SymbolTable::new(alloc),
             registers: Symbols::new(alloc),
-            controls: Symbols::new(alloc),
             labels: Symbols::new(alloc),
-            strong: Symbols::new(alloc),
             weak: Symbols::new(alloc),
             named: Symbols::new(alloc),
             labelled: Symbols::new(alloc),
+            found: Vec::new(alloc),
         }
     }
 
@@ -57,12 +54,9 @@ impl Index {
         ensures now { now_of self.new ≡ now_of self.old }
         ensures marked { marked_of self.new ≡ now_of self.old }
     {
-        self.symbols.mark();
-        self.sections.mark();
+        self.table.mark();
         self.registers.mark();
-        self.controls.mark();
         self.labels.mark();
-        self.strong.mark();
         self.weak.mark();
         self.named.mark();
         self.labelled.mark();
@@ -73,25 +67,29 @@ impl Index {
         ensures now { now_of self.new ≡ marked_of self.old }
         ensures marked { marked_of self.new ≡ marked_of self.old }
     {
-        self.symbols.go_back();
-        self.sections.go_back();
+        self.table.go_back();
         self.registers.go_back();
-        self.controls.go_back();
         self.labels.go_back();
-        self.strong.go_back();
         self.weak.go_back();
         self.named.go_back();
         self.labelled.go_back();
     }
 
-    /// Whether a section is kept, where the SD items before it are noted; and notes it.
-    pub(crate) fn keep_item(&mut self, x: &Item) -> Result<bool, AllocError>
-        ensures kept { IfOk result (λ kept. kept ≡ is_kept_over (now_of self.old).controls x.now (kind_of x.now)) }
-        ensures noted { OnOk result (now_of self.new ≡ with_control (now_of self.old) x.now) }
+    /// Whether an item is a section that is kept, where the SD items before it are noted; and notes its
+    /// symbol, and the name of an SD item.
+    pub(crate) fn keep_item(&mut self, x: &Sighted) -> Result<bool, AllocError>
+        ensures kept { IfOk result (λ kept. kept ≡ is_kept_over (now_of self.old).controls x.now.item (kind_of x.now.item)) }
+        ensures noted { OnOk result (now_of self.new ≡ with_seen (now_of self.old) (sight x.now)) }
         ensures marked { marked_of self.new ≡ marked_of self.old }
     {
-        match x.kind_kept() {
-            ItemKind::Sd => self.controls.put(Key::Named(x.name)),
+        let Some(key) = x.symbol() else {
+            self.found.push(0)?;
+            return Ok(false);
+        };
+        let place = self.table.put(key, 0)?;
+        self.found.push(place)?;
+        match x.item.kind_kept() {
+            ItemKind::Sd => self.table.put_control(key, place),
             ItemKind::Pc => Ok(true),
             ItemKind::Cm => Ok(true),
             _ => Ok(false),
@@ -104,20 +102,40 @@ impl Index {
     {
         let name = Key::Named(x.item.name);
         (x.is_kept_section(kept) && self.labels.has(&name))
-            || (x.is_kept_label(kept) && (self.labels.has(&name) || self.sections.has(&name)))
+            || (x.is_kept_label(kept) && (self.labels.has(&name) || self.table.is_section(&name)))
     }
 
+    /// Where the symbol of an item of a number was found.
+    fn found_at(&self, number: usize) -> usize {
+        match self.found.get(number) {
+            Some(place) => *place,
+            None => 0,
+        }
+    }
+
+    /// Notes the symbol of an item, and what it says of it by the item's kind.
     #[tactic(auto, unfolding(crate::specs::Steps::with_sight))]
     pub(crate) fn note_item(&mut self, kept: &[bool], x: &Sighted) -> Result<(), AllocError>
         ensures noted { OnOk result (now_of self.new ≡ with_sight kept.now (now_of self.old) (sight x.now)) }
         ensures marked { marked_of self.new ≡ marked_of self.old }
     {
-        self.symbols.note(x.symbol())?;
-        self.sections.note(x.section_symbol())?;
-        self.registers.note(x.register())?;
-        self.labels.note(x.kept_label(kept))?;
-        self.strong.note(x.reference())?;
-        self.weak.note(x.weak_reference())
+        let Some(key) = x.symbol() else {
+            return self.registers.note(x.register());
+        };
+        let likely = self.found_at(x.number);
+        let place = self.table.put(key, likely)?;
+        match x.item.kind_kept() {
+            ItemKind::Sd | ItemKind::Pc | ItemKind::Cm => {
+                self.table.put_section(key, place)?;
+                Ok(())
+            }
+            ItemKind::Er => {
+                self.table.put_strong(key, place)?;
+                Ok(())
+            }
+            ItemKind::Wx => self.weak.note(Some(key)),
+            _ => self.labels.note(x.kept_label(kept)),
+        }
     }
 
     #[tactic(auto, unfolding(crate::specs::Steps::with_target))]
@@ -126,7 +144,7 @@ impl Index {
         ensures marked { marked_of self.new ≡ marked_of self.old }
     {
         let name = target_name(t.target);
-        self.symbols.note(name)?;
+        self.table.note(name)?;
         self.named.note(name)?;
         self.labelled.note(label_meant(items, t.target))
     }

@@ -1,8 +1,9 @@
 //! What may be referred to, and the items that bring it.
-ghost use Rattle.std.specs.Prelude.{◌≡◌, option_map};
+ghost use Rattle.std.specs.Prelude.{◌≡◌, map, option_map};
 ghost use Rattle.sym_mod.specs.Kinds.{is_sd, is_er, is_wx, is_register};
 ghost use Rattle.linking_model.specs.Kept.{symbol_of, section_symbol};
 ghost use Rattle.esd_index.specs.Keys.{as_symbol, sight};
+ghost use Rattle.esd_index.specs.Parts.{stands_at};
 ghost use Rattle.esd_index.specs.Steps.{named_if, is_kept_section_by, is_kept_label_by, kept_label_by, flag_at, is_kept_over};
 
 use le_bytes::Name;
@@ -31,6 +32,17 @@ pub fn flag_at(flags: &[bool], number: usize) -> bool
 {
     match flags.get(number) {
         Some(flag) => *flag,
+        None => false,
+    }
+}
+
+/// Whether the symbol stands at a place, from 0.
+#[tactic(auto, using(crate::proofs::Parts::key_stands))]
+pub fn stands_at(keys: &[Key], place: usize, key: &Key) -> bool
+    ensures { result ≡ stands_at (map as_symbol keys.now) place (as_symbol key.now) }
+{
+    match keys.get(place) {
+        Some(there) => *there == *key,
         None => false,
     }
 }

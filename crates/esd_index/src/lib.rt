@@ -7,9 +7,12 @@ mod constants;
 mod index;
 mod key;
 mod noting;
+mod subset;
+mod symbol_table;
 mod symbols;
 
 pub use index::Index;
-pub use key::{Key, Sighted, flag_at};
+pub use key::{Key, Sighted, flag_at, stands_at};
 pub use noting::Stop;
+pub use symbol_table::SymbolTable;
 pub use symbols::Symbols;

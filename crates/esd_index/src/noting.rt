@@ -2,7 +2,7 @@
 ghost use Rattle.std.specs.Prelude.{◌≡◌, [], Ok, Err, fold, IfOk};
 ghost use Rattle.linking_model.specs.Kept.{sights_in};
 ghost use Rattle.esd_index.specs.Contents.{now_of, marked_of};
-ghost use Rattle.esd_index.specs.Steps.{kept_flags, with_control, with_sights};
+ghost use Rattle.esd_index.specs.Steps.{kept_flags, with_seen, with_sights};
 ghost use Rattle.esd_index.specs.Noted.{Notes};
 
 use crate::index::Index;
@@ -32,22 +32,36 @@ impl From<AllocError> for Stop {
 }
 
 impl Index {
-    /// For each item whether it is a section that is kept.
-    pub fn keep_items(&mut self, alloc: Global, items: &[Item]) -> Result<Vec<bool>, AllocError>
+    /// For each item whether it is a section that is kept. Notes the symbols of the items, and where each
+    /// was found.
+    pub(crate) fn keep_items(
+        &mut self,
+        alloc: Global,
+        of_module: usize,
+        segment: u8,
+        items: &[Item],
+    ) -> Result<Vec<bool>, AllocError>
         ensures flags { IfOk result (λ kept. kept.items ≡ kept_flags (now_of self.old).controls items.now) }
-        ensures noted { IfOk result (λ _. now_of self.new ≡ fold with_control (now_of self.old) items.now) }
+        ensures noted { IfOk result (λ _. now_of self.new ≡ fold with_seen (now_of self.old) (sights_in of_module segment 0 items.now)) }
         ensures marked { marked_of self.new ≡ marked_of self.old }
     {
         let mut kept = Vec::with_capacity(alloc, items.len())?;
-        for item in items {
-            kept.push(self.keep_item(item)?)?;
+        self.found.clear();
+        for (number, item) in items.iter().enumerate() {
+            let x = Sighted {
+                of_module,
+                number,
+                segment,
+                item: *item,
+            };
+            kept.push(self.keep_item(&x)?)?;
         }
         Ok(kept)
     }
 
-    #[tactic(auto, unfolding(crate::specs::Steps::with_sights))]
     /// Notes the items of a module, where none gives its name a second meaning.
-    pub fn note_items(
+    #[tactic(auto, unfolding(crate::specs::Steps::with_sights))]
+    pub(crate) fn note_items(
         &mut self,
         of_module: usize,
         segment: u8,

@@ -1,12 +1,12 @@
 //! A growing list of symbols without repeats.
-ghost use Rattle.std.specs.Prelude.{◌≡◌, not, ◌<◌, ◌+◌, ◌≤◌, [], ◌∷◌, ◌^◌, length, map, position, option_map, OnOk, IfOk, IfSome};
+ghost use Rattle.std.specs.Prelude.{◌≡◌, not, ◌<◌, ◌+◌, ◌≤◌, [], ◌∷◌, ◌^◌, Some, length, map, position, option_map, OnOk, OnErr, IfOk, IfSome};
 ghost use Rattle.std.specs.List.{list_any};
 ghost use Rattle.linking_model.specs.Names.{with_first};
 ghost use Rattle.linking_model.specs.Kept.{symbol_eq};
 ghost use Rattle.esd_index.specs.Keys.{as_symbol};
 ghost use Rattle.esd_index.specs.Marked.{with_some};
 
-use crate::key::Key;
+use crate::key::{Key, stands_at};
 use indexmap::IndexSet;
 use std::alloc::{AllocError, Global};
 use std::marker::Model;
@@ -44,6 +44,9 @@ impl Symbols {
 
     /// Puts a symbol at the end, where it is not there yet, and answers whether it was not. What was
     /// marked stays.
+    ///
+    /// # Errors
+    /// Want of memory.
     pub fn put(&mut self, key: Key) -> Result<bool, AllocError>
         ensures noted { OnOk result (self.new.all ≡ with_first symbol_eq self.old.all (as_symbol key)) }
         ensures fresh { IfOk result (λ fresh. fresh ≡ not (list_any (symbol_eq (as_symbol key)) self.old.all)) }
@@ -52,7 +55,28 @@ impl Symbols {
         Ok(self.keys.insert(key)?)
     }
 
+    /// Puts a symbol at the end, where it is not there yet, and answers its place, from 0. Where it is
+    /// likely to stand is tried first, and costs no hash.
+    ///
+    /// # Errors
+    /// Want of memory. The symbols are as before.
+    pub(crate) fn put_near(&mut self, key: Key, likely: usize) -> Result<usize, AllocError>
+        ensures noted { OnOk result (self.new.all ≡ with_first symbol_eq self.old.all (as_symbol key)) }
+        ensures marked { self.new.marked ≡ self.old.marked }
+        ensures place { IfOk result (λ place. position (symbol_eq (as_symbol key)) self.new.all ≡ Some place) }
+        ensures err { OnErr result (self.new ≡ self.old) }
+    {
+        if stands_at(self.keys.as_slice(), likely, &key) {
+            return Ok(likely);
+        }
+        let (place, _fresh) = self.keys.insert_full(key)?;
+        Ok(place)
+    }
+
     /// Puts a symbol at the end, if there is one and it is not there yet. What was marked stays.
+    ///
+    /// # Errors
+    /// Want of memory.
     pub fn note(&mut self, key: Option<Key>) -> Result<(), AllocError>
         ensures noted { OnOk result (self.new.all ≡ with_some self.old.all (option_map as_symbol key)) }
         ensures marked { self.new.marked ≡ self.old.marked }

@@ -12,7 +12,7 @@ use Rattle.sym_mod.specs.Kinds.{kind_of, is_sd}
 use Rattle.linking_model.specs.Names.{with_first, firsts}
 use Rattle.linking_model.specs.Kept.{Sight, Symbol, ByName, symbol_eq, is_sd_named}
 use Rattle.esd_index.specs.Steps.{named_if}
-use Rattle.esd_merge.specs.Looked.{stands_at}
+use Rattle.esd_index.specs.Parts.{stands_at}
 use Rattle.esd_merge.specs.Gathered.{control_listed, control_at}
 use Rattle.esd_merge.proofs.Firsts.{name_sym, name_same, symbol_refl, position_is, position_stays, grows}
 use Rattle.esd_merge.proofs.Sights.{any_find}

@@ -8,7 +8,7 @@ use Rattle.std.proofs.lemmas.Option.{slice_get-map, slice_get_within}
 use Rattle.linking_model.specs.Kept.{Symbol, symbol_eq}
 use Rattle.esd_index.specs.declared.key.Key.{Key}
 use Rattle.esd_index.specs.Keys.{as_symbol}
-use Rattle.esd_merge.specs.Looked.{stands_at}
+use Rattle.esd_index.specs.Parts.{stands_at}
 use Rattle.esd_merge.proofs.Firsts.{symbol_refl, symbol_same, position_is}
 use Rattle.esd_merge.proofs.Each.{all_at}
 use Rattle.esd_merge.proofs.Small.{symbols_equal}
@@ -41,10 +41,3 @@ pub placed : (ys : List Symbol) (k : ℕ) (y : Symbol) → IsDistinct symbol_eq 
 placed ys k y d e =
     let none : 0 + k ≡ k = omega arith in
     position_is (symbol_eq y) ys ∙ placed_from 0 ys k y d (stands_there ys k y e) ∙ ap Some none
-
-key_case : (o : Option Key) (y : Symbol) → option_map_or (λ k. symbol_eq (as_symbol k) y) o false ≡ option_map_or (λ z. symbol_eq z y) (option_map as_symbol o) false
-key_case None y = refl
-key_case (Some k) y = refl
-
-pub key_stands : (ks : List Key) (ys : List Symbol) (k : ℕ) (y : Symbol) → map as_symbol ks ≡ ys → option_map_or (λ z. symbol_eq (as_symbol z) y) (slice_get ks k) false ≡ stands_at ys k y
-key_stands ks ys k y e = key_case (slice_get ks k) y ∙ ap (λ (o : Option Symbol). option_map_or (λ z. symbol_eq z y) o false) (sym (slice_get-map as_symbol ks k) ∙ ap (λ (zs : List Symbol). slice_get zs k) e)

@@ -8,10 +8,11 @@ use Rattle.sym_mod.specs.declared.program.Label.{Label}
 use Rattle.linking_model.specs.Kept.{Sight, Symbol, ByName, symbol_eq, is_area_named}
 use Rattle.linking_model.specs.Merged.{is_label_named}
 use Rattle.esd_index.specs.Contents.{Contents}
+use Rattle.esd_index.specs.Parts.{stands_at}
 use Rattle.esd_merge.specs.declared.by_name.Area.{Area}
 use Rattle.esd_merge.specs.declared.by_name.Extent.{Extent}
 use Rattle.esd_merge.specs.declared.reading.Reading.{Reading}
-use Rattle.esd_merge.specs.Looked.{rank_by, seen_by, home_by, stands_at}
+use Rattle.esd_merge.specs.Looked.{rank_by, seen_by, home_by}
 
 -- what stands at y after v was put at n
 abbrev pub put_in : {V : Type 0} → Name → V → Name → Option V → Option V

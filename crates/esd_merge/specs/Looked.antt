@@ -16,10 +16,6 @@ pub record IsNumbered (c : Contents) : Type 0 where
   pub sections_apart : IsDistinct symbol_eq c.sections
   pub controls_apart : IsDistinct symbol_eq c.controls
 
--- the symbol stands at place k
-abbrev pub stands_at : List Symbol → ℕ → Symbol → Bool
-stands_at ys k y = option_map_or (λ z. symbol_eq z y) (slice_get ys k) false
-
 -- the place of a symbol in the order of first appearance
 abbrev pub rank_by : Contents → Symbol → ℕ
 rank_by c y = unwrap_or (position (symbol_eq y) c.symbols) 0

@@ -11,9 +11,9 @@ ghost use Rattle.esd_merge.specs.Gathered.{base_of, area_in, no_area, extent_in,
 ghost use Rattle.esd_merge.specs.Walked.{gathered_from};
 
 use crate::by_name::{Area, Extent, put, take_area};
-use crate::lookups::{home, rank, seen, stands_at};
+use crate::lookups::{home, rank, seen};
 use crate::reading::Reading;
-use esd_index::{Index, Key, Sighted};
+use esd_index::{Index, Key, Sighted, stands_at};
 use le_bytes::Name;
 use std::alloc::{AllocError, Global};
 use std::collections::HashMap;
@@ -103,7 +103,7 @@ fn note_control(controls: &mut Vec<Sighted>, index: &Index, x: &Sighted) -> Resu
     if !is_control(x) {
         return Ok(());
     }
-    if !stands_at(&index.controls, controls.len(), &Key::Named(x.item.name)) {
+    if !stands_at(index.table.controls(), controls.len(), &Key::Named(x.item.name)) {
         return Ok(());
     }
     controls.push(*x)?;
@@ -240,7 +240,7 @@ pub(crate) fn gather(
     ensures extents { IfOk result (λ g. (y : Name) → extent_in (get name_eq g.extents y) ≡ gathered_from (extent_step y) (extent_in None) 0 reads.now) }
 {
     let mut gathered = Gathered {
-        controls: Vec::with_capacity(alloc, index.controls.len())?,
+        controls: Vec::with_capacity(alloc, index.table.controls().len())?,
         areas: HashMap::new(alloc),
         labels: HashMap::new(alloc),
         extents: HashMap::new(alloc),

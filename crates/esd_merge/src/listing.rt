@@ -11,7 +11,7 @@ ghost use Rattle.esd_merge.specs.Listed.{pushed, at_name, named_by, private_by, 
 
 use crate::by_name::{Area, Extent};
 use crate::gathering::extent_at;
-use crate::lookups::{place_next, rank_next, seen};
+use crate::lookups::{control_place, rank_next, section_place, seen};
 use crate::reading::Reading;
 use esd_index::{Index, Key, Sighted, Symbols};
 use le_bytes::{Items, Name};
@@ -59,7 +59,8 @@ fn control_at(index: &Index, controls: &[Sighted], next: &mut usize, name: Name)
     requires { IsNumbered (now_of index.now) }
     ensures { option_map sight result ≡ control_at (now_of index.now).controls (map sight controls.now) name }
 {
-    let place = place_next(&index.controls, next, &Key::Named(name))?;
+    let place = control_place(index, *next, &Key::Named(name))?;
+    *next = place.saturating_add(1);
     controls.get(place).copied()
 }
 
@@ -177,12 +178,12 @@ pub(crate) fn sections(
     requires { IsNumbered (now_of index.now) }
     ensures { IfOk result (λ list. list ≡ fold (λ xs y. pushed xs (section_by (now_of index.now) reads.now (control_at (now_of index.now).controls (map sight controls.now)) (λ y. area_in (get name_eq areas.now y)) y)) [] (now_of index.now).sections) }
 {
-    let mut list = Items::from_vec(Vec::with_capacity(alloc, index.sections.len())?);
+    let mut list = Items::from_vec(Vec::with_capacity(alloc, index.table.sections().len())?);
     let mut likely = Likely {
         symbol: 0,
         control: 0,
     };
-    for key in index.sections.keys() {
+    for key in index.table.sections() {
         let section = section(alloc, index, reads, controls, areas, key, &mut likely)?;
         push_some(&mut list, section)?;
     }
@@ -212,7 +213,7 @@ pub(crate) fn labels(
     ensures { IfOk result (λ list. list ≡ fold (λ xs y. pushed xs (at_name (get name_eq labels.now) y)) [] (now_of index.now).symbols) }
 {
     let mut list = Items::new(alloc);
-    for key in index.symbols.keys() {
+    for key in index.table.symbols().keys() {
         push_some(&mut list, label_of(labels, key))?;
     }
     Ok(list)
@@ -260,14 +261,15 @@ pub(crate) fn has(symbols: &Symbols, name: Name) -> bool
 fn is_referenced(index: &Index, name: Name) -> bool
     ensures { result ≡ is_referenced_by (now_of index.now) name }
 {
-    (has(&index.strong, name) || has(&index.weak, name))
+    (index.table.is_strong(&Key::Named(name)) || has(&index.weak, name))
         || (has(&index.named, name) || has(&index.labelled, name))
 }
 
 fn is_weak(index: &Index, name: Name) -> bool
     ensures { result ≡ is_weak_by (now_of index.now) name }
 {
-    (has(&index.weak, name) && !has(&index.strong, name)) && !has(&index.labelled, name)
+    (has(&index.weak, name) && !index.table.is_strong(&Key::Named(name)))
+        && !has(&index.labelled, name)
 }
 
 /// A name that no section has, where it is unresolved.
@@ -292,7 +294,7 @@ pub(crate) fn unknown(index: &Index, key: &Key) -> Option<Unknown>
 {
     match key {
         Key::Named(name) => {
-            if has(&index.sections, *name) {
+            if index.table.is_section(key) {
                 None
             } else {
                 unknown_name(index, *name)
@@ -309,8 +311,11 @@ fn unknown_next(index: &Index, next: &mut usize, key: &Key) -> Option<Unknown>
     ensures { result ≡ unknown_by (now_of index.now) (as_symbol key.now) }
 {
     match key {
-        Key::Named(name) => match place_next(&index.sections, next, key) {
-            Some(_) => None,
+        Key::Named(name) => match section_place(index, *next, key) {
+            Some(place) => {
+                *next = place.saturating_add(1);
+                None
+            }
             None => unknown_name(index, *name),
         },
         Key::Private(..) => None,
@@ -324,7 +329,7 @@ pub(crate) fn unknowns(alloc: Global, index: &Index) -> Result<Items<Unknown>, A
 {
     let mut list = Items::new(alloc);
     let mut next = 0;
-    for key in index.symbols.keys() {
+    for key in index.table.symbols().keys() {
         push_some(&mut list, unknown_next(index, &mut next, key))?;
     }
     Ok(list)

@@ -1,50 +1,71 @@
 //! Where items of the modules that were read are kept.
 ghost use Rattle.std.specs.Prelude.{◌≡◌, ◌<◌, length, position, slice_get, option_map, option_and_then, IfSome};
-ghost use Rattle.std.specs.List.{IsDistinct};
 ghost use Rattle.linking_model.specs.Kept.{symbol_eq, section_symbol};
 ghost use Rattle.esd_index.specs.Keys.{as_symbol, sight};
 ghost use Rattle.esd_index.specs.Contents.{now_of};
 ghost use Rattle.esd_merge.specs.Held.{is_marked_in};
-ghost use Rattle.esd_merge.specs.Looked.{IsNumbered, stands_at, rank_by, number_by, seen_by, home_by};
+ghost use Rattle.esd_merge.specs.Looked.{IsNumbered, rank_by, number_by, seen_by, home_by};
 
 use crate::reading::Reading;
-use esd_index::{Index, Key, Sighted, Symbols, flag_at};
+use esd_index::{Index, Key, Sighted, flag_at, stands_at};
 use sym_mod::Item;
 
-/// Whether the symbol stands at a place.
-#[tactic(auto, using(crate::proofs::Places::key_stands))]
-pub(crate) fn stands_at(symbols: &Symbols, place: usize, key: &Key) -> bool
-    ensures { result ≡ stands_at symbols.now.all place (as_symbol key.now) }
-{
-    match symbols.keys().get(place) {
-        Some(there) => *there == *key,
-        None => false,
-    }
-}
-
-/// The place of a symbol. Where it is likely to stand is tried first, and costs no hash.
+/// The place of a symbol in the order of first appearance. Where it is likely to stand is tried first,
+/// and costs no hash.
 #[tactic(auto, using(crate::proofs::Places::placed, crate::proofs::Places::stands_within))]
-fn place_near(symbols: &Symbols, likely: usize, key: &Key) -> Option<usize>
-    requires { IsDistinct symbol_eq symbols.now.all }
-    ensures place { result ≡ position (symbol_eq (as_symbol key.now)) symbols.now.all }
-    ensures within { IfSome result (λ place. place < length symbols.now.all) }
+fn symbol_place(index: &Index, likely: usize, key: &Key) -> Option<usize>
+    requires { IsNumbered (now_of index.now) }
+    ensures place { result ≡ position (symbol_eq (as_symbol key.now)) (now_of index.now).symbols }
+    ensures within { IfSome result (λ place. place < length (now_of index.now).symbols) }
 {
-    if stands_at(symbols, likely, key) {
+    let symbols = index.table.symbols();
+    if stands_at(symbols.keys(), likely, key) {
         return Some(likely);
     }
     symbols.place(key)
 }
 
-/// The place of a symbol. It is looked for first at `next`, which becomes the place behind it: mostly
-/// symbols are asked for in the order in which they stand.
-pub(crate) fn place_next(symbols: &Symbols, next: &mut usize, key: &Key) -> Option<usize>
-    requires { IsDistinct symbol_eq symbols.now.all }
-    ensures place { result ≡ position (symbol_eq (as_symbol key.now)) symbols.now.all }
-    ensures within { IfSome result (λ place. place < length symbols.now.all) }
+/// The place of a symbol among the sections. Where it is likely to stand is tried first, and costs no
+/// hash.
+#[tactic(auto, using(crate::proofs::Places::placed, crate::proofs::Places::stands_within))]
+pub(crate) fn section_place(index: &Index, likely: usize, key: &Key) -> Option<usize>
+    requires { IsNumbered (now_of index.now) }
+    ensures place { result ≡ position (symbol_eq (as_symbol key.now)) (now_of index.now).sections }
+    ensures within { IfSome result (λ place. place < length (now_of index.now).sections) }
 {
-    let place = place_near(symbols, *next, key)?;
-    *next = place.saturating_add(1);
-    Some(place)
+    if stands_at(index.table.sections(), likely, key) {
+        return Some(likely);
+    }
+    index.table.section_place(key)
+}
+
+/// The place of a name among those of SD items. Where it is likely to stand is tried first, and costs
+/// no hash.
+#[tactic(auto, using(crate::proofs::Places::placed, crate::proofs::Places::stands_within))]
+pub(crate) fn control_place(index: &Index, likely: usize, key: &Key) -> Option<usize>
+    requires { IsNumbered (now_of index.now) }
+    ensures { result ≡ position (symbol_eq (as_symbol key.now)) (now_of index.now).controls }
+{
+    if stands_at(index.table.controls(), likely, key) {
+        return Some(likely);
+    }
+    index.table.control_place(key)
+}
+
+/// The place of a symbol in the order of first appearance, 0 where it has none. It is looked for first
+/// at `next`, which becomes the place behind it: mostly symbols are asked for in the order in which they
+/// stand.
+pub(crate) fn rank_next(index: &Index, next: &mut usize, key: &Key) -> u32
+    requires { IsNumbered (now_of index.now) }
+    ensures { result ≡ rank_by (now_of index.now) (as_symbol key.now) }
+{
+    match symbol_place(index, *next, key) {
+        Some(place) => {
+            *next = place.saturating_add(1);
+            place as u32
+        }
+        None => 0,
+    }
 }
 
 /// The place of a symbol in the order of first appearance, 0 where it has none.
@@ -52,18 +73,7 @@ pub(crate) fn rank(index: &Index, key: &Key) -> u32
     requires { IsNumbered (now_of index.now) }
     ensures { result ≡ rank_by (now_of index.now) (as_symbol key.now) }
 {
-    match index.symbols.place(key) {
-        Some(place) => place as u32,
-        None => 0,
-    }
-}
-
-/// The place of a symbol in the order of first appearance, looked for first at `next`.
-pub(crate) fn rank_next(index: &Index, next: &mut usize, key: &Key) -> u32
-    requires { IsNumbered (now_of index.now) }
-    ensures { result ≡ rank_by (now_of index.now) (as_symbol key.now) }
-{
-    match place_next(&index.symbols, next, key) {
+    match index.table.symbols().place(key) {
         Some(place) => place as u32,
         None => 0,
     }
@@ -74,7 +84,7 @@ pub(crate) fn section_number(index: &Index, key: &Key) -> Option<u32>
     requires { IsNumbered (now_of index.now) }
     ensures { result ≡ number_by (now_of index.now) (as_symbol key.now) }
 {
-    match index.sections.place(key) {
+    match index.table.section_place(key) {
         Some(place) => Some(place as u32),
         None => None,
     }
@@ -85,7 +95,7 @@ pub(crate) fn section_near(index: &Index, likely: usize, key: &Key) -> Option<u3
     requires { IsNumbered (now_of index.now) }
     ensures { result ≡ number_by (now_of index.now) (as_symbol key.now) }
 {
-    match place_near(&index.sections, likely, key) {
+    match section_place(index, likely, key) {
         Some(place) => Some(place as u32),
         None => None,
     }

@@ -29,7 +29,7 @@ impl<'a> Unres<'a> {
     {
         Unres {
             index,
-            rest: index.symbols.keys(),
+            rest: index.table.symbols().keys(),
         }
     }
 }
@@ -79,7 +79,7 @@ pub(crate) fn label_number(index: &Index, name: &Name) -> Option<Defined>
     ensures { target_of result ≡ label_from (now_of index.now) name.now 0 (now_of index.now).symbols }
 {
     let mut number: u32 = 0;
-    for key in index.symbols.keys() {
+    for key in index.table.symbols().keys() {
         if has_label(index, key) {
             if *key == Key::Named(*name) {
                 return Some(Defined::Label(number));
