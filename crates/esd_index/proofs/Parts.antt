@@ -1,12 +1,12 @@
 -- Symbols that are found by their place among all.
-use Rattle.std.proofs.Common.{◌≡◌, ◌≢◌, ℕ, zero, suc, ◌+◌, ◌-◌, ◌<◌, ◌≤◌, Bool, true, false, not, ◌||◌, cond, List, [], ◌∷◌, ◌++◌, map, length, get_or, set, replicate, slice_get, slice_set, Option, Some, None, is_some, option_map, unwrap_or, Result, Ok, Err, OnOk, OnErr, ◌⊎◌, ⊎_elim, inl, inr, refl, sym, ap, ◌∙◌, subst, arith}
+use Rattle.std.proofs.Common.{◌≡◌, ◌≢◌, ℕ, zero, suc, ◌+◌, ◌-◌, ◌<◌, Bool, true, false, ◌||◌, cond, List, [], ◌∷◌, ◌++◌, map, length, get_or, set, replicate, slice_get, Option, Some, None, is_some, option_map, unwrap_or, Result, Ok, Err, OnOk, OnErr, ◌⊎◌, ⊎_elim, inl, inr, refl, sym, ap, ◌∙◌, subst, arith}
 use Rattle.std.specs.Prelude.{position, option_and_then}
 use Rattle.std.specs.List.{list_any, position_from, IsDistinct, AllByRecursion}
 use Rattle.std.specs.Option.{option_map_or}
 use Rattle.std.proofs.lemmas.Bool.Decides.{nat_tests}
 use Rattle.std.proofs.lemmas.Iterator.Adapters.{position_from-zero}
 use Rattle.std.proofs.lemmas.Map.Keys.{IsDistinct-head, IsDistinct-tail}
-use Rattle.std.proofs.lemmas.Option.{slice_get-map, slice_get_within, slice_get-get_or}
+use Rattle.std.proofs.lemmas.Option.{slice_get-map, slice_get-get_or}
 use Rattle.std.proofs.lemmas.List.Quantifiers.{position-Some}
 use Rattle.std.proofs.lemmas.List.{length-append, length-replicate}
 use Rattle.std.specs.declared.alloc.AllocError.{AllocError}
@@ -20,7 +20,7 @@ use Rattle.esd_index.specs.declared.key.Key.{Key}
 use Rattle.esd_index.specs.Keys.{as_symbol}
 use Rattle.esd_index.specs.Marked.{Marked, with_put}
 use Rattle.esd_index.proofs.Lists.{same_key}
-use Rattle.esd_index.specs.Parts.{Part, stands_at, place_by, with_room, with_last, Leads, Begins, IsPartOf}
+use Rattle.esd_index.specs.Parts.{Part, stands_at, place_by, with_room, with_last, Leads, IsPartOf}
 
 -- ---- equal symbols
 
@@ -147,6 +147,7 @@ found_by all part y at leads is = here (position (symbol_eq y) part.all) refl
             let any : list_any (symbol_eq y) part.all ≡ true = there_any y part.all k (stands_there part.all k y e) in
             let no : false ≡ list_any (symbol_eq y) part.all = ap is_some (sym none) ∙ position_found (symbol_eq y) part.all in
             absurd (cc (any, no))
+
     here : (o : Option ℕ) → position (symbol_eq y) part.all ≡ o → place_by part at y ≡ o
     here None e = absent (slice_get part.places at) e
     here (Some k) e =
@@ -231,6 +232,7 @@ leads_written all places part at v leads nowhere k z there = here (position (sym
     at_place : (p : ℕ) → position (symbol_eq z) all ≡ Some p → slice_get places p ≡ Some k → (p ≡ at) ⊎ (p ≢ at) → slice_get (set places at v) p ≡ Some k
     at_place p e noted (inl same) = absurd (nowhere z k (subst (λ (q : ℕ). slice_get all q ≡ Some z) same (found_there z all p e)) there)
     at_place p e noted (inr other) = set_other places at p v other ∙ noted
+
     here : (o : Option ℕ) → position (symbol_eq z) all ≡ o → option_and_then (λ p. slice_get (set places at v) p) (position (symbol_eq z) all) ≡ Some k
     here None e = absurd (cc (rw e at (leads k z there)))
     here (Some p) e = rw e (at_place p e (rw e at (leads k z there)) (same_or p at))
@@ -251,13 +253,16 @@ part_last symbols part y at is stands absent low = record {
         let same : z ≡ y = ap (λ (o : Option Symbol). unwrap_or o y) (sym e ∙ here) in
         let none : list_any (symbol_eq z) part.all ≡ false = subst (λ (w : Symbol). list_any (symbol_eq w) part.all ≡ false) (sym same) absent in
         absurd (cc (any, none))
+
     old_leads : Leads symbols.all (set part.places at (length part.all)) part.all
     old_leads = leads_written symbols.all part.places part.all at (length part.all) is.leads nowhere
+
     last_case : (k : ℕ) (z : Symbol) → (slice_get part.all k ≡ Some z) ⊎ ((k ≡ length part.all) × (y ≡ z)) → option_and_then (λ p. slice_get (set part.places at (length part.all)) p) (position (symbol_eq z) symbols.all) ≡ Some k
     last_case k z (inl there) = old_leads k z there
     last_case k z (inr both) =
         let stands_z : position (symbol_eq z) symbols.all ≡ Some at = subst (λ (w : Symbol). position (symbol_eq w) symbols.all ≡ Some at) both.1 stands in
         rw stands_z (set_same part.places at (length part.all) low ∙ ap Some (sym both.0))
+
     last_leads : Leads symbols.all (set part.places at (length part.all)) (part.all ++ y ∷ [])
     last_leads k z there = last_case k z (get_pushed part.all y k z there)
 

@@ -1,6 +1,4 @@
 -- The symbols, and which of them are of some kind.
-use Rattle.std.specs.Prelude.{List}
-use Rattle.linking_model.specs.Kept.{Symbol}
 use Rattle.esd_index.specs.Marked.{Marked}
 use Rattle.esd_index.specs.Parts.{Part, IsPartOf}
 use Rattle.esd_index.specs.declared.symbol_table.SymbolTable.TheInside.{Inside}

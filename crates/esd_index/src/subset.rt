@@ -115,12 +115,7 @@ impl Subset {
     ///
     /// # Errors
     /// Want of memory. The symbols are as before.
-    pub(crate) fn put(
-        &mut self,
-        symbols: &Symbols,
-        at: usize,
-        key: Key,
-    ) -> Result<bool, AllocError>
+    pub(crate) fn put(&mut self, symbols: &Symbols, at: usize, key: Key) -> Result<bool, AllocError>
         requires part { IsPartOf symbols.now self.old }
         requires stands { position (symbol_eq (as_symbol key)) symbols.now.all ≡ Some at }
         ensures noted { OnOk result (self.new.all ≡ with_first symbol_eq self.old.all (as_symbol key)) }

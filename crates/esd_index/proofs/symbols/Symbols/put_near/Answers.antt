@@ -1,7 +1,7 @@
-use Rattle.std.proofs.Common.{◌≡◌, true, Some, List, ◌∙◌, ap, sym, map, subst}
+use Rattle.std.proofs.Common.{◌≡◌, true, List, ◌∙◌, ap, sym, map}
 use Rattle.std.specs.Prelude.{position}
 use Rattle.linking_model.specs.Names.{with_first}
-use Rattle.linking_model.specs.Kept.{Symbol, symbol_eq}
+use Rattle.linking_model.specs.Kept.{symbol_eq}
 use Rattle.esd_index.specs.declared.key.Key.{Key}
 use Rattle.esd_index.specs.Keys.{as_symbol}
 use Rattle.esd_index.specs.Marked.{Marked}
