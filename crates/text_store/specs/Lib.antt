@@ -1,3 +1,4 @@
 pub mod Content
+pub mod Overwriting
 pub mod Rewriting
 pub mod Whole
