@@ -7,7 +7,7 @@ use crate::card::{EndCard, EndStart};
 use crate::layout::{BLANK, END, blank_head, characters, is_all_blank, padded_card, place};
 use le_bytes::{Name, num16, num24, num32, put16, put24, put32};
 
-/// What an END card says. There is none that is faulty by itself.
+/// What an END card says. None is faulty by itself, and columns 1 to 4 are not looked at.
 #[tactic(auto, unfolding(crate::specs::End::end_card))]
 pub fn read_end(c: &[u8; 80]) -> EndCard
     ensures exact { result ≡ end_card c.now }

@@ -11,10 +11,15 @@ use crate::fault::CardFault;
 use crate::layout::{BLANK, ESD, blank_head, characters, padded_card, place};
 use le_bytes::{Name, num16, num24, put16, put24};
 
-/// Reads an ESD card into a card that is not in use.
+/// Reads an ESD card into a card that is not in use. The kind of the card is the caller's to know:
+/// columns 1 to 4 are not looked at.
 ///
 /// # Errors
-/// The first of BadCount and BadEsdType. The card is of no use then.
+/// - BadCount: the byte count is not 16, 32 or 48.
+/// - BadEsdType: an item has an unknown type, a pseudo-register an alignment other than 1, 2, 4 or 8
+///   bytes, or a label or reference a name of blanks.
+///
+/// The card is of no use then.
 #[tactic(auto, unfolding(crate::specs::Esd::esd_card))]
 pub fn read_esd(c: &[u8; 80], card: &mut EsdCard) -> Result<(), CardFault>
     requires unused { card.old ≡ unused_esd_card }

@@ -9,10 +9,14 @@ use crate::fault::CardFault;
 use crate::layout::{BLANK, RLD, blank_head, padded_card};
 use le_bytes::{num16, num24, put16, put24};
 
-/// Reads an RLD card into a card that is not in use.
+/// Reads an RLD card into a card that is not in use. The kind of the card is the caller's to know:
+/// columns 1 to 4 are not looked at.
 ///
 /// # Errors
-/// The first of BadCount and BadFlag. The card is of no use then.
+/// The first from the left of these. The card is of no use then.
+/// - BadCount: the byte count is above 56, or ends inside an item.
+/// - BadFlag: a flag has bits without a meaning, or the last item shares its pointers with one that is
+///   not there.
 #[tactic(auto, unfolding(crate::specs::Rld::rld_card))]
 pub fn read_rld(c: &[u8; 80], card: &mut RldCard) -> Result<(), CardFault>
     requires unused { card.old ≡ unused_rld_card }

@@ -9,10 +9,11 @@ use crate::fault::CardFault;
 use crate::layout::{TXT, blank_head, padded_card, place};
 use le_bytes::{num16, num24, put16, put24};
 
-/// Reads a TXT card into a card that is not in use.
+/// Reads a TXT card into a card that is not in use. The kind of the card is the caller's to know:
+/// columns 1 to 4 are not looked at.
 ///
 /// # Errors
-/// BadCount. The card stays as it was then.
+/// BadCount: the byte count is above 56. The card is of no use then.
 #[tactic(auto, unfolding(crate::specs::Txt::txt_card))]
 pub fn read_txt(c: &[u8; 80], card: &mut TxtCard) -> Result<(), CardFault>
     requires unused { card.old ≡ unused_txt_card }
