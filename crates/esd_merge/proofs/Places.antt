@@ -1,13 +1,11 @@
 -- Symbols that stand in a list where they are looked for.
-use Rattle.std.proofs.Common.{◌≡◌, ℕ, zero, suc, ◌+◌, ◌<◌, true, false, List, [], ◌∷◌, map, length, slice_get, Option, Some, None, option_map, refl, sym, ap, ◌∙◌, subst, arith}
+use Rattle.std.proofs.Common.{◌≡◌, ℕ, zero, suc, ◌+◌, ◌<◌, true, false, List, [], ◌∷◌, length, slice_get, Option, Some, None, refl, sym, ap, ◌∙◌, subst, arith}
 use Rattle.std.specs.Prelude.{position}
 use Rattle.std.specs.List.{position_from, IsDistinct}
 use Rattle.std.specs.Option.{option_map_or}
 use Rattle.std.proofs.lemmas.Map.Keys.{IsDistinct-head, IsDistinct-tail}
-use Rattle.std.proofs.lemmas.Option.{slice_get-map, slice_get_within}
+use Rattle.std.proofs.lemmas.Option.{slice_get_within}
 use Rattle.linking_model.specs.Kept.{Symbol, symbol_eq}
-use Rattle.esd_index.specs.declared.key.Key.{Key}
-use Rattle.esd_index.specs.Keys.{as_symbol}
 use Rattle.esd_index.specs.Parts.{stands_at}
 use Rattle.esd_merge.proofs.Firsts.{symbol_refl, symbol_same, position_is}
 use Rattle.esd_merge.proofs.Each.{all_at}

@@ -1,7 +1,6 @@
 -- What the index and the modules that were read say of an item.
-use Rattle.std.specs.Prelude.{ℕ, ◌≤◌, Bool, false, if◌then◌else◌, List, length, position, slice_get, Option, None, unwrap_or, option_map, option_and_then}
+use Rattle.std.specs.Prelude.{ℕ, ◌≤◌, if◌then◌else◌, List, length, position, slice_get, Option, None, unwrap_or, option_map, option_and_then}
 use Rattle.std.specs.List.{IsDistinct}
-use Rattle.std.specs.Option.{option_map_or}
 use Rattle.linking_model.specs.Kept.{Sight, Symbol, symbol_eq, section_symbol}
 use Rattle.esd_index.specs.Contents.{Contents}
 use Rattle.esd_merge.specs.declared.reading.Reading.{Reading}

@@ -103,7 +103,11 @@ fn note_control(controls: &mut Vec<Sighted>, index: &Index, x: &Sighted) -> Resu
     if !is_control(x) {
         return Ok(());
     }
-    if !stands_at(index.table.controls(), controls.len(), &Key::Named(x.item.name)) {
+    if !stands_at(
+        index.table.controls(),
+        controls.len(),
+        &Key::Named(x.item.name),
+    ) {
         return Ok(());
     }
     controls.push(*x)?;
