@@ -1,6 +1,6 @@
 //! What may be referred to, and the items that bring it.
 ghost use Rattle.std.specs.Prelude.{◌≡◌, map, option_map};
-ghost use Rattle.sym_mod.specs.Kinds.{is_sd, is_er, is_wx, is_register};
+ghost use Rattle.sym_mod.specs.Kinds.{is_sd, is_register};
 ghost use Rattle.linking_model.specs.Kept.{symbol_of, section_symbol};
 ghost use Rattle.esd_index.specs.Keys.{as_symbol, sight};
 ghost use Rattle.esd_index.specs.Parts.{stands_at};
@@ -76,26 +76,6 @@ impl Sighted {
     {
         match self.item.kind_kept() {
             ItemKind::Register => Some(Key::Named(self.item.name)),
-            _ => None,
-        }
-    }
-
-    /// The name of a reference that is not weak.
-    pub fn reference(&self) -> Option<Key>
-        ensures { option_map as_symbol result ≡ named_if is_er self.now.item }
-    {
-        match self.item.kind_kept() {
-            ItemKind::Er => Some(Key::Named(self.item.name)),
-            _ => None,
-        }
-    }
-
-    /// The name of a weak reference.
-    pub fn weak_reference(&self) -> Option<Key>
-        ensures { option_map as_symbol result ≡ named_if is_wx self.now.item }
-    {
-        match self.item.kind_kept() {
-            ItemKind::Wx => Some(Key::Named(self.item.name)),
             _ => None,
         }
     }
