@@ -1,7 +1,6 @@
 -- Text laid into parts, and shifts added to the fields of constants.
-use Rattle.std.proofs.Common.{arith, ◌≡◌, ◌≢◌, ℕ, zero, suc, ◌+◌, ◌-◌, ◌%◌, ◌^◌, ◌<◌, ◌≤◌, Bool, true, false, cond, if◌then◌else◌, List, [], ◌∷◌, ◌++◌, length, map, fold, filter, take, drop, replicate, get_or, slice_get, slice_set, slice_index, refl, sym, ◌∙◌, ap, subst, Option, Some, None}
+use Rattle.std.proofs.Common.{arith, ◌≡◌, ℕ, zero, suc, ◌+◌, ◌-◌, ◌%◌, ◌^◌, ◌≤◌, Bool, true, false, cond, if◌then◌else◌, List, [], ◌∷◌, length, map, fold, filter, take, drop, replicate, slice_set, refl, sym, ◌∙◌, ap, subst}
 use Rattle.std.specs.List.{range_with_len}
-use Rattle.std.proofs.lemmas.List.{length-map}
 use Rattle.byteorder.specs.Endian.{big_number, big_bytes}
 use Rattle.load_recs.specs.declared.items.SymbolItem.{SymbolItem}
 use Rattle.load_recs.specs.declared.items.RldItem.{RldItem}
@@ -15,16 +14,16 @@ use Rattle.placing.specs.declared.extent.Extent.{Extent}
 use Rattle.placing.specs.declared.placement.Placement.{Placement}
 use Rattle.placing.specs.declared.placement.Placement.TheVariants.{Block, Scattered}
 use Rattle.placing.specs.Addresses.{addresses_by, extents_by}
-use Rattle.placing.specs.Extents.{has, extents_at, StandEach, StandApart, Fits}
+use Rattle.placing.specs.Extents.{has, extents_at, StandApart, Fits}
 use Rattle.placing.proofs.Apart.{held_first}
 use Rattle.part_store.specs.declared.homes.Home.{Home}
-use Rattle.part_store.specs.Homes.{origins_by, sizes_by, home_by, homes_by, home_at}
+use Rattle.part_store.specs.Homes.{sizes_by, home_by, homes_by, home_at}
 use Rattle.part_store.specs.Held.{bytes_in, part_in, Sized, holding}
-use Rattle.part_store.specs.Kept.{Kept, empty_parts, LieInPart, with_text, shifted_in, added_by, with_shift, with_field, with_fields, FieldsLie, parts_at, parts_of}
+use Rattle.part_store.specs.Kept.{Kept, empty_parts, LieInPart, with_text, shifted_in, added_by, with_shift, with_field, parts_at, parts_of}
 use Rattle.part_store.specs.Sound.{InSection, Suits}
 use Rattle.part_store.proofs.Adding.{with_one, length_big}
-use Rattle.part_store.proofs.Holding.{length_held, section_held, field_held, with_held, same_held}
-use Rattle.part_store.proofs.Standing.{Stands, stands, lies, home_found}
+use Rattle.part_store.proofs.Holding.{section_held, field_held, with_held}
+use Rattle.part_store.proofs.Standing.{Stands, stands, home_found}
 
 -- the extents of a placement that fits stand apart
 pub apart_by : (symbols : List SymbolItem) (p : Placement) → Fits p symbols → StandApart (extents_by symbols p)

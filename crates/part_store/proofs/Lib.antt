@@ -3,6 +3,7 @@ pub mod Holding
 pub mod Shifting
 pub mod Standing
 pub mod Stepping
+pub mod Vectors
 pub mod Writing
 pub mod Laying
 pub mod Relocating

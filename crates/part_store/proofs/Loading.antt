@@ -1,10 +1,9 @@
 -- Parts with all text laid and all shifts added hold what is loaded.
-use Rattle.std.proofs.Common.{arith, ◌≡◌, ℕ, Bool, true, false, List, [], ◌∷◌, map, fold, filter, find, refl, sym, ◌∙◌, ap, Option, Some, None}
+use Rattle.std.proofs.Common.{arith, ◌≡◌, ℕ, Bool, true, false, List, [], ◌∷◌, fold, filter, find, refl, sym, ◌∙◌, ap, Option, Some, None}
 use Rattle.load_recs.specs.declared.items.SymbolItem.{SymbolItem}
 use Rattle.load_recs.specs.declared.items.RldItem.{RldItem}
 use Rattle.linking_model.specs.Run.{Storage}
 use Rattle.member_model.specs.Facts.{Facts}
-use Rattle.member_model.specs.Faults.{shares_wrongly}
 use Rattle.member_model.specs.Symbols.{field_length, same_field}
 use Rattle.member_model.specs.Loaded.{Addresses, field_place, is_shifted, shift, items_in, shifts_of, covers, loaded, loaded_byte, text_storage}
 use Rattle.placing.specs.declared.extent.Extent.{Extent}
@@ -12,13 +11,13 @@ use Rattle.placing.specs.declared.placement.Placement.{Placement}
 use Rattle.placing.specs.Addresses.{addresses_by, extents_by}
 use Rattle.placing.specs.Extents.{Fits}
 use Rattle.part_store.specs.Held.{bytes_in, Sized, holding}
-use Rattle.part_store.specs.Kept.{Kept, with_field, with_fields, FieldsLie}
+use Rattle.part_store.specs.Kept.{Kept, with_fields, FieldsLie}
 use Rattle.part_store.specs.Shifts.{shifts_by}
 use Rattle.part_store.specs.Sound.{Suits, SectionsApart, SoundField, NoneShares, AllSound}
-use Rattle.part_store.proofs.Adding.{has_byte, byte_with, with_one, Fit, AllFit, FitTogether, IsOnePlace, all_added, same_map}
+use Rattle.part_store.proofs.Adding.{byte_with, with_one, AllFit, FitTogether, IsOnePlace, all_added, same_map}
 use Rattle.part_store.proofs.Holding.{same_held}
 use Rattle.part_store.proofs.Standing.{lies}
-use Rattle.part_store.proofs.Laying.{AddsAs, AllInSection, fields_hold}
+use Rattle.part_store.proofs.Laying.{AllInSection, fields_hold}
 use Rattle.part_store.proofs.Relocating.{adds_as, fields_fit}
 
 -- ---- one place of a field

@@ -1,30 +1,28 @@
 -- The parts of a member in storage: shifts from the homes of its parts, and fields that share no byte.
-use Rattle.std.proofs.Common.{arith, ◌≡◌, ◌≢◌, ℕ, zero, suc, ◌+◌, ◌-◌, ◌*◌, ◌/◌, ◌%◌, ◌^◌, ◌<◌, ◌≤◌, ◌⊎◌, inl, inr, Bool, true, false, not, ◌&&◌, ◌==◌, nat_lt, if◌then◌else◌, List, [], ◌∷◌, length, map, fold, filter, find, take, get_or, slice_get, slice_index, count_by, unwrap_or, refl, sym, ◌∙◌, ap, subst, Option, Some, None}
+use Rattle.std.proofs.Common.{arith, ◌≡◌, ◌≢◌, ℕ, zero, suc, ◌+◌, ◌-◌, ◌*◌, ◌/◌, ◌%◌, ◌^◌, ◌<◌, ◌≤◌, ◌⊎◌, inl, inr, Bool, true, false, not, ◌&&◌, ◌==◌, nat_lt, if◌then◌else◌, List, [], ◌∷◌, length, map, take, slice_get, slice_index, count_by, refl, sym, ◌∙◌, ap, subst, Option, Some, None}
 use Rattle.std.specs.List.{range_with_len, enumerate_from}
-use Rattle.std.specs.Option.{option_map_or}
-use Rattle.std.proofs.lemmas.Option.{none-some, slice_get_within, slice_get_past}
-use Rattle.std.proofs.lemmas.List.FromFn.{get_or-map-range_with_len, length-map-range_with_len}
+use Rattle.std.proofs.lemmas.Option.{slice_get_within, slice_get_past}
+use Rattle.std.proofs.lemmas.List.FromFn.{get_or-map-range_with_len}
 use Rattle.std.proofs.Math.Nat.{mod-add-div}
 use Rattle.load_recs.specs.declared.items.SymbolItem.{SymbolItem}
 use Rattle.load_recs.specs.declared.items.RldItem.{RldItem}
 use Rattle.linking_model.specs.Numbers.{is_among}
-use Rattle.linking_model.specs.Run.{Storage}
 use Rattle.member_model.specs.Facts.{Facts}
 use Rattle.member_model.specs.Faults.{shares_wrongly}
 use Rattle.member_model.specs.Symbols.{is_section, symbol_at, section_as, section_of, section_rank, end_of, address_in_module, field_length, field_kind, is_minus, same_field}
-use Rattle.member_model.specs.Loaded.{Addresses, moved, field_place, is_shifted, shift, items_in, shifts_of, covers, loaded, loaded_byte, text_storage}
+use Rattle.member_model.specs.Loaded.{Addresses, moved, field_place, shift}
 use Rattle.placing.specs.declared.extent.Extent.{Extent}
 use Rattle.placing.specs.declared.placement.Placement.{Placement}
 use Rattle.placing.specs.declared.placement.Placement.TheVariants.{Block, Scattered}
 use Rattle.placing.specs.Addresses.{addresses_by, extents_by}
 use Rattle.placing.specs.Extents.{has, Fits}
-use Rattle.part_store.specs.Homes.{origins_by, home_by, homes_by, home_at, no_home}
+use Rattle.part_store.specs.Homes.{origins_by, homes_by, home_at, no_home}
 use Rattle.part_store.specs.Held.{Sized}
-use Rattle.part_store.specs.Kept.{Kept, LieInPart, with_text, with_shift, with_field, with_fields, FieldsLie, added_by}
+use Rattle.part_store.specs.Kept.{Kept}
 use Rattle.part_store.specs.Shifts.{moves, moves_at, shift_between, shift_by, shifts_by, home_shift, shift_of, shifts_in}
 use Rattle.part_store.specs.Sound.{InSection, Suits, SectionsApart, HasMover}
-use Rattle.part_store.proofs.Adding.{has_byte, byte_with, with_one, Fit, AllFit, FitTogether, IsOnePlace, all_added, same_map}
-use Rattle.part_store.proofs.Holding.{in_one, same_held}
+use Rattle.part_store.proofs.Adding.{has_byte, Fit}
+use Rattle.part_store.proofs.Holding.{in_one}
 use Rattle.part_store.proofs.Shifting.{added_same, same_remainder}
 use Rattle.part_store.proofs.Standing.{Stands, stands, ItemPlace, item_place, home_found, rank_is, count_below, address_of_item, homes_length}
 use Rattle.part_store.proofs.Laying.{AddsAs, apart_by}

@@ -1,6 +1,6 @@
 -- A shift modulo 2 to the power of 32, added to the number of a field, is the shift modulo the field's size.
 use Rattle.std.proofs.Common.{arith, ◌≡◌, ℕ, zero, suc, ◌+◌, ◌-◌, ◌*◌, ◌/◌, ◌%◌, ◌^◌, ◌<◌, ◌≤◌, Bool, true, false, if◌then◌else◌, refl, sym, ◌∙◌, ap}
-use Rattle.std.proofs.Math.Nat.{mod-add-mod, mod-lt, mod-add-div, add-mul-mod_self_left, mul-add-mod_self_left}
+use Rattle.std.proofs.Math.Nat.{mod-add-mod, mod-lt, mod-add-div, add-mul-mod_self_left}
 use Rattle.linking_model.specs.Linked.{difference, signed_difference}
 use Rattle.part_store.specs.Shifts.{shift_between}
 

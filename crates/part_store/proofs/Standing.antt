@@ -1,27 +1,26 @@
 -- Where what stands in a section goes: into which part, at which place, and at which address.
-use Rattle.std.proofs.Common.{arith, ◌≡◌, ℕ, zero, suc, ◌+◌, ◌-◌, ◌<◌, ◌≤◌, Bool, true, false, cond, ◌==◌, if◌then◌else◌, List, [], ◌∷◌, ◌++◌, length, map, filter, take, replicate, get_or, slice_get, slice_index, count_by, unwrap_or, refl, sym, ◌∙◌, ap, subst, Option, Some, None, add-one}
+use Rattle.std.proofs.Common.{arith, ◌≡◌, ℕ, zero, suc, ◌+◌, ◌-◌, ◌<◌, ◌≤◌, Bool, true, false, cond, ◌==◌, List, [], ◌∷◌, ◌++◌, length, map, filter, take, get_or, slice_get, slice_index, count_by, refl, sym, ◌∙◌, ap, subst, Some}
 use Rattle.std.specs.List.{range_with_len, enumerate_from}
-use Rattle.std.specs.Option.{option_map, option_map_or}
+use Rattle.std.specs.Option.{option_map}
 use Rattle.std.proofs.lemmas.Grind.{common_steps}
 use Rattle.std.proofs.lemmas.List.{take_more}
 use Rattle.std.proofs.lemmas.List.Sums.{sum_by-cons}
 use Rattle.std.proofs.lemmas.List.FromFn.{get_or-map-range_with_len, length-map-range_with_len, map-range_with_len_more}
-use Rattle.std.proofs.lemmas.Option.{slice_get-map, get_or_from_slice_get, slice_get_within, slice_get-get_or, none-some}
+use Rattle.std.proofs.lemmas.Option.{slice_get-map, slice_get_within, slice_get-get_or, none-some}
 use Rattle.load_recs.specs.declared.items.SymbolItem.{SymbolItem}
-use Rattle.linking_model.specs.Run.{Storage}
 use Rattle.member_model.specs.Symbols.{is_section, symbol_at, end_of, section_rank, address_in_module}
-use Rattle.member_model.specs.Loaded.{Addresses, moved}
+use Rattle.member_model.specs.Loaded.{moved}
 use Rattle.member_model.specs.Placing.{sections_of}
-use Rattle.text_store.specs.Content.{section_of, LieInContent}
+use Rattle.text_store.specs.Content.{section_of}
 use Rattle.placing.specs.declared.extent.Extent.{Extent}
 use Rattle.placing.specs.declared.placement.Placement.{Placement}
 use Rattle.placing.specs.declared.placement.Placement.TheVariants.{Block, Scattered}
 use Rattle.placing.specs.Addresses.{addresses_by, extents_by}
-use Rattle.placing.specs.Extents.{extents_at, StandEach, Fits}
+use Rattle.placing.specs.Extents.{extents_at, Fits}
 use Rattle.part_store.specs.declared.homes.Home.{Home}
 use Rattle.part_store.specs.Homes.{origins_by, sizes_by, home_by, homes_by, home_at, home_of, no_home}
-use Rattle.part_store.specs.Held.{bytes_in, Sized}
-use Rattle.part_store.specs.Kept.{Kept, empty_parts, LieInPart, address_in}
+use Rattle.part_store.specs.Held.{Sized}
+use Rattle.part_store.specs.Kept.{Kept, LieInPart, address_in}
 use Rattle.part_store.specs.Sound.{InSection, Suits}
 
 -- ---- places of items

@@ -1,14 +1,13 @@
 -- Bytes written into one of several vectors.
-use Rattle.std.proofs.Common.{arith, ◌≡◌, ℕ, ◌+◌, ◌%◌, ◌^◌, ◌<◌, ◌≤◌, List, [], ◌∷◌, ◌++◌, length, map, take, drop, get_or, slice_get, slice_set, slice_range, refl, sym, ◌∙◌, ap, subst, Some}
+use Rattle.std.proofs.Common.{arith, ◌≡◌, ℕ, ◌+◌, ◌%◌, ◌^◌, ◌≤◌, List, length, map, take, drop, get_or, slice_get, slice_set, slice_range, sym, ◌∙◌, ap, subst, Some}
 use Rattle.std.specs.Vec.{with_items_from}
 use Rattle.std.specs.Global.{Vec}
 use Rattle.std.proofs.lemmas.Grind.{common_steps}
-use Rattle.std.proofs.lemmas.Option.{get_or_from_slice_get}
 use Rattle.byteorder.specs.Endian.{big_number, big_bytes}
 use Rattle.text_store.specs.Content.{section_of, with_bytes, LieInContent}
-use Rattle.text_store.specs.Rewriting.{found_there, rewritten_there, section_there}
 use Rattle.part_store.specs.Kept.{shifted_in}
 use Rattle.part_store.proofs.Adding.{length_big}
+use Rattle.part_store.proofs.Vectors.{found_there, rewritten_there, room_there}
 
 abbrev pub contents : List (Vec ℕ) → List (List ℕ)
 contents rooms = map (λ room. room.items) rooms
@@ -31,7 +30,7 @@ pub shifted : (rooms : List (Vec ℕ)) (i at n added : ℕ) (field new : List �
     → contents (slice_set rooms i (with_items_from (get_or rooms i v) at new)) ≡ shifted_in (contents rooms) i at n added
 shifted rooms i at n added field new v inside is lent written =
     let found : slice_get rooms i ≡ Some v = found_there rooms i at n v inside is in
-    let there : section_of (contents rooms) i ≡ v.items = section_there rooms i v found in
+    let there : section_of (contents rooms) i ≡ v.items = room_there rooms i v found in
     let fits : at + n ≤ length v.items = subst (λ ys. at + n ≤ length ys) there inside.inside in
     let value : field ≡ take n (drop at (section_of (contents rooms) i)) =
     lent ∙ (ap (λ u. slice_range u.items at (at + n)) (sym is) ∙ (ranged v.items at n fits ∙ ap (λ ys. take n (drop at ys)) (sym there))) in

@@ -1,5 +1,5 @@
 -- Parts of storage, and what is done to them.
-use Rattle.std.specs.Prelude.{◌≡◌, ℕ, ◌+◌, ◌-◌, ◌%◌, ◌^◌, ◌≤◌, true, if◌then◌else◌, List, [], ◌∷◌, length, map, fold, take, drop, replicate, slice_index}
+use Rattle.std.specs.Prelude.{◌≡◌, ℕ, ◌+◌, ◌-◌, ◌%◌, ◌^◌, ◌≤◌, true, if◌then◌else◌, List, [], ◌∷◌, map, fold, take, drop, replicate, slice_index}
 use Rattle.std.specs.Global.{Vec}
 use Rattle.byteorder.specs.Endian.{big_number, big_bytes}
 use Rattle.load_recs.specs.declared.items.SymbolItem.{SymbolItem}

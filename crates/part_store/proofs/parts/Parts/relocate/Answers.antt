@@ -1,4 +1,3 @@
-use Rattle.std.proofs.Common.{◌≡◌}
 use Rattle.part_store.proofs.Stepping.{first_lies, one_field_more, no_field_more}
 use Rattle.part_store.proofs.parts.Parts.relocate.Goals as goal
 

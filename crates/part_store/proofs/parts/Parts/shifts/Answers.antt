@@ -1,8 +1,4 @@
-use Rattle.std.proofs.Common.{◌≡◌, ◌+◌, ◌++◌, ◌∷◌, [], map, take, get_or, sym, ◌∙◌, ap}
-use Rattle.std.specs.List.{enumerate_from}
-use Rattle.load_recs.specs.declared.items.SymbolItem.{SymbolItem}
-use Rattle.part_store.specs.Shifts.{shift_of}
-use Rattle.part_store.proofs.Standing.{numbered_more}
+use Rattle.std.proofs.Common.{◌∙◌}
 use Rattle.part_store.proofs.Stepping.{shift_more}
 use Rattle.part_store.proofs.parts.Parts.shifts.Goals as goal
 
