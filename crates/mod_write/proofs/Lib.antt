@@ -1,6 +1,6 @@
 pub mod Assembled
+pub mod Chaining
 pub mod Entries
-pub mod Gathered
 pub mod Lists
 pub mod Member
 pub mod Pairs

@@ -7,7 +7,6 @@ use Rattle.sym_mod.specs.declared.program.Program.{Program}
 use Rattle.sym_mod.specs.declared.program.Target.{Target}
 use Rattle.sym_mod.specs.declared.program.Target.TheVariants.{Section as InSection, Label as AtLabel, Unresolved, Register as OfRegister, Total}
 use Rattle.relocate.specs.Ready.{IsDefinedIn}
-use Rattle.load_recs.specs.declared.items.RldItem.{RldItem}
 use Rattle.linking_model.specs.Tree.{segments}
 use Rattle.linking_model.specs.Places.{Laid}
 use Rattle.linking_model.specs.Tables.{entries}
@@ -22,6 +21,7 @@ use Rattle.part_list.proofs.Addressed.{part_end, table_near}
 use Rattle.segment_write.specs.Chunks.{IsItem}
 use Rattle.segment_write.specs.Pieces.{IsPart, last_byte}
 use Rattle.segment_write.specs.declared.piece.PlacedPart.{PlacedPart}
+use Rattle.mod_write.specs.declared.chains.Chains.{Chains}
 use Rattle.mod_write.specs.Ready.{IsSource}
 use Rattle.mod_write.proofs.Relocations.{few_symbols, AreNear, number_within, items_are, items_ordered, items_inside}
 use Rattle.mod_write.proofs.Entries.{all_defined, entries_are, entries_ordered, entries_inside}
@@ -32,8 +32,8 @@ pub record IsReady (P : Laid) (a : Places) : Type 0 where
   pub placed : ArePlacesOf P a
   pub planned : P.entries ≡ map (entries P.program P.tree) (segments P.tree)
 
-pub ready_by : (P : Laid) (a : Places) (content : List (List ℕ)) (items : List (List RldItem)) (n : ℕ) → IsSource P a content items n → IsReady P a
-ready_by P a content items n from = record { can = from.can; placed = from.linked.placed; planned = from.linked.fit.entries }
+pub ready_by : (P : Laid) (a : Places) (content : List (List ℕ)) (chains : Chains) (n : ℕ) → IsSource P a content chains n → IsReady P a
+ready_by P a content chains n from = record { can = from.can; placed = from.linked.placed; planned = from.linked.fit.entries }
 
 few : (P : Laid) → CanBeListed P → few_symbols P < 2 ^ 16
 few P can = let h = few_items P can in omega (arith, h)

@@ -1,3 +1,4 @@
+pub mod Chained
 pub mod Items
 pub mod Naming
 pub mod Ready

@@ -1,17 +1,16 @@
 -- What has to stand for a member to be written: the addresses, the tables and the text are those of the program.
-use Rattle.std.specs.Prelude.{◌≡◌, false, ◌&&◌, ℕ, List, map, length}
-use Rattle.std.specs.List.{range_with_len}
+use Rattle.std.specs.Prelude.{◌≡◌, false, ◌&&◌, ℕ, List, length}
 use Rattle.sym_mod.specs.declared.program.Places.{Places}
-use Rattle.load_recs.specs.declared.items.RldItem.{RldItem}
 use Rattle.linking_model.specs.Places.{Laid, is_overlay}
 use Rattle.linking_model.specs.Linked.{block}
 use Rattle.relocate.specs.Ready.{FitTogether}
 use Rattle.relocate.specs.Agreeing.{linked_text}
-use Rattle.member_model.specs.Chunks.{section_items}
 use Rattle.part_list.specs.Listed.{CanBeListed}
 use Rattle.part_list.specs.Placed.{ArePlacesOf}
 use Rattle.segment_write.specs.Pieces.{IsPieceLength}
+use Rattle.mod_write.specs.declared.chains.Chains.{Chains}
 use Rattle.mod_write.specs.declared.naming.Format.{Format}
+use Rattle.mod_write.specs.Chained.{AreChained}
 
 -- the addresses are assigned to the program, within the limits of registers and module, the tree and the tables are
 -- its own, and the text is linked for a block at 0
@@ -26,9 +25,9 @@ pub record IsFormat (P : Laid) (fmt : Format) : Type 0 where
   pub one : (fmt.overlay && fmt.scatter) ≡ false
   pub piece : IsPieceLength fmt.piece
 
--- what the records of segments are made of: such a program, the items of each section, and the length of a piece
-pub record IsSource (P : Laid) (a : Places) (content : List (List ℕ)) (items : List (List RldItem)) (piece : ℕ) : Type 0 where
+-- what the records of segments are made of: such a program, the constants of each section, and the length of a piece
+pub record IsSource (P : Laid) (a : Places) (content : List (List ℕ)) (chains : Chains) (piece : ℕ) : Type 0 where
   pub can : CanBeListed P
   pub linked : IsLinked P a content
-  pub items_are : items ≡ map (section_items P) (range_with_len 0 (length P.program.sections))
+  pub chained : AreChained P.program.constants (length P.program.sections) chains
   pub length : IsPieceLength piece

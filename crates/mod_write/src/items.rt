@@ -1,6 +1,5 @@
 //! The relocation items of sections and overlay tables.
-ghost use Rattle.std.specs.Prelude.{◌≡◌, ◌+◌, ◌*◌, ◌-◌, ◌<◌, ◌≤◌, ◌++◌, [], ◌∷◌, length, map, IfOk, OnOk, if◌then◌else◌};
-ghost use Rattle.std.specs.List.{range_with_len};
+ghost use Rattle.std.specs.Prelude.{◌≡◌, ◌+◌, ◌*◌, ◌-◌, ◌<◌, ◌≤◌, ◌++◌, length, map, IfOk, OnOk, if◌then◌else◌};
 ghost use Rattle.sym_mod.specs.Sound.{IsSoundConstant, TargetFitsKind};
 ghost use Rattle.linking_model.specs.Tree.{segments};
 ghost use Rattle.linking_model.specs.Tables.{entries};
@@ -8,8 +7,10 @@ ghost use Rattle.member_model.specs.Chunks.{by_address, kind_flag, outside_flag,
 ghost use Rattle.relocate.specs.Listed.{table_of};
 ghost use Rattle.part_list.specs.Listed.{CanBeListed};
 ghost use Rattle.part_list.specs.Placed.{ArePlacesOf};
+ghost use Rattle.mod_write.specs.Chained.{AreChained};
 ghost use Rattle.mod_write.specs.Items.{terms_in};
 
+use crate::chains::Chains;
 use crate::sorting::by_address;
 use le_bytes::Memory;
 use load_recs::RldItem;
@@ -17,8 +18,19 @@ use part_list::{Part, PartList};
 use std::alloc::{AllocError, Global};
 use sym_mod::{Constant, Kind, Places, Tables, Target, Term};
 
-/// The relocation items of each section, by address and at one address in the order of terms. Each
-/// constant is looked at once, and the items of each section are sorted.
+/// The constants of each section of a program.
+///
+/// # Errors
+/// Want of memory.
+pub(crate) fn chains(alloc: Global, list: &PartList<'_>) -> Result<Chains, AllocError>
+    ensures value { IfOk result (AreChained list.now.program.constants (length list.now.program.sections)) }
+    ensures can { IfOk result (λ _. CanBeListed list.now) }
+{
+    let program = list.program();
+    Chains::new(alloc, program.constants.as_slice(), program.sections.len())
+}
+
+/// The relocation items of a section, by address and at one address in the order of terms.
 ///
 /// # Errors
 /// Want of memory.
@@ -26,47 +38,38 @@ pub(crate) fn section_items(
     alloc: Global,
     list: &PartList<'_>,
     a: &Places,
-) -> Result<Vec<Vec<RldItem>>, Memory>
-    requires { ArePlacesOf list.now a.now }
-    ensures value { IfOk result (λ items. map (λ v. v.items) items.items ≡ map (section_items list.now) (range_with_len 0 (length list.now.program.sections))) }
-    ensures can { IfOk result (λ _. CanBeListed list.now) }
+    chains: &Chains,
+    section: u32,
+) -> Result<Vec<RldItem>, AllocError>
+    requires places { ArePlacesOf list.now a.now }
+    requires chained { AreChained list.now.program.constants (length list.now.program.sections) chains.now }
+    requires there { section < length list.now.program.sections }
+    ensures { IfOk result (λ items. items.items ≡ section_items list.now section) }
 {
-    let mut items = gathered(alloc, list, a)?;
-    sort_each(&mut items)?;
+    let mut items = gathered(alloc, list, a, chains, section)?;
+    by_address(&mut items)?;
     Ok(items)
 }
 
-/// Puts the items of each section in the order of their addresses.
-fn sort_each(items: &mut Vec<Vec<RldItem>>) -> Result<(), AllocError>
-    ensures { OnOk result (map (λ v. v.items) items.new.items ≡ map (λ v. by_address v.items) items.old.items) }
+/// The relocation items of a section, as its constants stand.
+fn gathered(
+    alloc: Global,
+    list: &PartList<'_>,
+    a: &Places,
+    chains: &Chains,
+    section: u32,
+) -> Result<Vec<RldItem>, AllocError>
+    requires places { ArePlacesOf list.now a.now }
+    requires chained { AreChained list.now.program.constants (length list.now.program.sections) chains.now }
+    requires there { section < length list.now.program.sections }
+    ensures { IfOk result (λ items. items.items ≡ terms_in list.now list.now.program.constants section) }
 {
-    for k in 0..items.len() {
-        by_address(&mut items[k])?;
-    }
-    Ok(())
-}
-
-/// The relocation items of each section, as its constants stand.
-fn gathered(alloc: Global, list: &PartList<'_>, a: &Places) -> Result<Vec<Vec<RldItem>>, Memory>
-    requires { ArePlacesOf list.now a.now }
-    ensures value { IfOk result (λ items. map (λ v. v.items) items.items ≡ map (terms_in list.now list.now.program.constants) (range_with_len 0 (length list.now.program.sections))) }
-    ensures can { IfOk result (λ _. CanBeListed list.now) }
-{
-    let program = list.program();
-    let mut items = empty(alloc, program.sections.len())?;
-    for constant in program.constants.as_slice() {
-        add_terms(&mut items[constant.section as usize], list, a, constant)?;
-    }
-    Ok(items)
-}
-
-/// So many empty lists.
-fn empty(alloc: Global, count: usize) -> Result<Vec<Vec<RldItem>>, AllocError>
-    ensures { IfOk result (λ items. map (λ v. v.items) items.items ≡ map (λ _. []) (range_with_len 0 count)) }
-{
-    let mut items = Vec::with_capacity(alloc, count)?;
-    for _k in 0..count {
-        items.push(Vec::new(alloc))?;
+    let constants = list.program().constants.as_slice();
+    let mut items = Vec::new(alloc);
+    let mut place = chains.first[section as usize];
+    while place < constants.len() {
+        add_terms(&mut items, list, a, &constants[place])?;
+        place = chains.next[place];
     }
     Ok(items)
 }

@@ -2,6 +2,7 @@
 //! program, and the records of each segment.
 #![tactic(auto)]
 
+mod chains;
 mod items;
 mod naming;
 mod records;

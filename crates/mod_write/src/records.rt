@@ -23,7 +23,7 @@ pub(crate) fn records<K: TextKeeper>(
     from: &Source<'_, K>,
     fmt: Format,
 ) -> Result<Items<Bytes>, Memory>
-    requires source { IsSource from.now.list.now from.now.places.now (K.content from.now.kept.now) (map (λ v. v.items) from.now.items.now) from.now.piece }
+    requires source { IsSource from.now.list.now from.now.places.now (K.content from.now.kept.now) from.now.chains.now from.now.piece }
     requires overlay { fmt.overlay ≡ is_overlay from.now.list.now.tree }
     ensures value { IfOk result (λ records. records ≡ written_bytes from.now.list.now fmt.scatter from.now.piece) }
     ensures sizes { IfOk result (All IsStored) }
@@ -44,7 +44,7 @@ fn notes<K: TextKeeper>(
     before: usize,
     segments: &[Items<Bytes>],
 ) -> Result<Items<Bytes>, Memory>
-    requires source { IsSource from.now.list.now from.now.places.now (K.content from.now.kept.now) (map (λ v. v.items) from.now.items.now) from.now.piece }
+    requires source { IsSource from.now.list.now from.now.places.now (K.content from.now.kept.now) from.now.chains.now from.now.piece }
     requires segments { segments.now ≡ bytes_of_segments from.now.list.now from.now.piece }
     ensures value { IfOk result (λ notes. notes ≡ note_bytes from.now.list.now from.now.piece overlay before) }
     ensures sizes { IfOk result (All IsStored) }

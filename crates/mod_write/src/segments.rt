@@ -11,7 +11,8 @@ ghost use Rattle.segment_write.specs.Writing.{IsReady, HasPieces};
 ghost use Rattle.mod_write.specs.Ready.{IsSource};
 ghost use Rattle.mod_write.specs.Written.{segment_bytes, bytes_of_segments};
 
-use crate::items::entry_items;
+use crate::chains::Chains;
+use crate::items::{entry_items, section_items};
 use le_bytes::{Bytes, Items, Memory};
 use load_recs::{Ends, RldItem};
 use part_list::{Part, PartList};
@@ -27,8 +28,8 @@ pub(crate) struct Source<'a, K: TextKeeper> {
     pub kept: &'a K,
     pub list: &'a PartList<'a>,
     pub places: &'a Places,
-    /// The relocation items of each section.
-    pub items: &'a [Vec<RldItem>],
+    /// The constants of each section.
+    pub chains: &'a Chains,
     /// The bytes of text in a record.
     pub piece: u32,
 }
@@ -41,7 +42,7 @@ pub(crate) fn segments<K: TextKeeper>(
     alloc: Global,
     from: &Source<'_, K>,
 ) -> Result<Vec<Items<Bytes>>, Memory>
-    requires source { IsSource from.now.list.now from.now.places.now (K.content from.now.kept.now) (map (λ v. v.items) from.now.items.now) from.now.piece }
+    requires source { IsSource from.now.list.now from.now.places.now (K.content from.now.kept.now) from.now.chains.now from.now.piece }
     ensures value { IfOk result (λ all. all.items ≡ bytes_of_segments from.now.list.now from.now.piece) }
     ensures sizes { IfOk result (λ all. All (All IsStored) all.items) }
 {
@@ -59,7 +60,7 @@ fn segment<K: TextKeeper>(
     from: &Source<'_, K>,
     s: u8,
 ) -> Result<Items<Bytes>, Memory>
-    requires source { IsSource from.now.list.now from.now.places.now (K.content from.now.kept.now) (map (λ v. v.items) from.now.items.now) from.now.piece }
+    requires source { IsSource from.now.list.now from.now.places.now (K.content from.now.kept.now) from.now.chains.now from.now.piece }
     requires first { 1 ≤ s }
     requires last { s ≤ length from.now.list.now.tree }
     ensures value { IfOk result (λ records. records ≡ segment_bytes from.now.list.now from.now.piece s) }
@@ -84,7 +85,7 @@ fn add_part<K: TextKeeper>(
     from: &Source<'_, K>,
     part: Part,
 ) -> Result<(), Memory>
-    requires source { IsSource from.now.list.now from.now.places.now (K.content from.now.kept.now) (map (λ v. v.items) from.now.items.now) from.now.piece }
+    requires source { IsSource from.now.list.now from.now.places.now (K.content from.now.kept.now) from.now.chains.now from.now.piece }
     requires part { IsPartOf from.now.list.now (seen part) }
     requires ready { IsReady records.old }
     ensures pieces { OnOk result ((before : List Piece) → HasPieces records.old before → HasPieces records.new (before ++ part_pieces from.now.list.now from.now.piece (seen part))) }
@@ -103,7 +104,7 @@ fn add_segment_table<K: TextKeeper>(
     records: &mut SegmentRecords,
     from: &Source<'_, K>,
 ) -> Result<(), Memory>
-    requires source { IsSource from.now.list.now from.now.places.now (K.content from.now.kept.now) (map (λ v. v.items) from.now.items.now) from.now.piece }
+    requires source { IsSource from.now.list.now from.now.places.now (K.content from.now.kept.now) from.now.chains.now from.now.piece }
     requires ready { IsReady records.old }
     ensures pieces { OnOk result ((before : List Piece) → HasPieces records.old before → HasPieces records.new (before ++ part_pieces from.now.list.now from.now.piece Segtab)) }
     ensures ready { OnOk result (IsReady records.new) }
@@ -121,7 +122,7 @@ fn add_text<K: TextKeeper>(
     from: &Source<'_, K>,
     section: u32,
 ) -> Result<(), Memory>
-    requires source { IsSource from.now.list.now from.now.places.now (K.content from.now.kept.now) (map (λ v. v.items) from.now.items.now) from.now.piece }
+    requires source { IsSource from.now.list.now from.now.places.now (K.content from.now.kept.now) from.now.chains.now from.now.piece }
     requires there { section < length from.now.list.now.program.sections }
     requires ready { IsReady records.old }
     ensures pieces { OnOk result ((before : List Piece) → HasPieces records.old before → HasPieces records.new (before ++ part_pieces from.now.list.now from.now.piece (OneSection section))) }
@@ -131,7 +132,8 @@ fn add_text<K: TextKeeper>(
     match from.list.kind_of(part) {
         SecKind::Cm => Ok(()),
         SecKind::Sd | SecKind::Pc => {
-            let part = placed(from, part, &from.items[section as usize]);
+            let items = section_items(alloc, from.list, from.places, from.chains, section)?;
+            let part = placed(from, part, &items);
             add_section(alloc, records, from.piece, part, from.kept, section)
         }
     }
@@ -144,7 +146,7 @@ fn add_entry_table<K: TextKeeper>(
     from: &Source<'_, K>,
     segment: u8,
 ) -> Result<(), Memory>
-    requires source { IsSource from.now.list.now from.now.places.now (K.content from.now.kept.now) (map (λ v. v.items) from.now.items.now) from.now.piece }
+    requires source { IsSource from.now.list.now from.now.places.now (K.content from.now.kept.now) from.now.chains.now from.now.piece }
     requires first { 1 ≤ segment }
     requires last { segment ≤ length from.now.list.now.tree }
     requires ready { IsReady records.old }
@@ -170,7 +172,7 @@ fn placed<'a, K: TextKeeper>(
     part: Part,
     items: &'a [RldItem],
 ) -> PlacedPart<'a>
-    requires source { IsSource from.now.list.now from.now.places.now (K.content from.now.kept.now) (map (λ v. v.items) from.now.items.now) from.now.piece }
+    requires source { IsSource from.now.list.now from.now.places.now (K.content from.now.kept.now) from.now.chains.now from.now.piece }
     requires part { IsPartOf from.now.list.now (seen part) }
     requires items { items.now ≡ part_items from.now.list.now (seen part) }
     ensures part { IsPart result }

@@ -8,7 +8,7 @@ ghost use Rattle.mod_write.specs.Ready.{IsLinked, IsFormat};
 ghost use Rattle.mod_write.specs.Stowable.{IsStowable};
 ghost use Rattle.mod_write.specs.Written.{alias_at};
 
-use crate::items::section_items;
+use crate::items::chains;
 use crate::naming::{AliasPoint, Format, Naming, PointAt};
 use crate::records::records;
 use crate::segments::Source;
@@ -52,12 +52,12 @@ pub fn write_member<K: TextKeeper>(
     ensures stowable { IfOk result IsStowable }
 {
     let list = PartList::new(alloc, p, tree, t)?;
-    let items = section_items(alloc, &list, a)?;
+    let chains = chains(alloc, &list)?;
     let from = Source {
         kept: k,
         list: &list,
         places: a,
-        items: &items,
+        chains: &chains,
         piece: fmt.piece,
     };
     let records = records(alloc, &from, fmt)?;

@@ -1,8 +1,13 @@
-use Rattle.std.proofs.Common.{◌≡◌, map, take, length}
-use Rattle.std.specs.List.{range_with_len}
+use Rattle.std.proofs.Common.{◌≡◌, ◌-◌, ◌++◌, length, drop}
 use Rattle.mod_write.specs.Items.{terms_in}
+use Rattle.mod_write.proofs.Chaining.{BeginsIn}
 use Rattle.mod_write.proofs.items.gathered.Given as goal
 
-abbrev pub invariant-loop-constant : goal.invariant-loop-constant
-invariant-loop-constant l =
-    map (λ v. v.items) l.items.items ≡ map (terms_in l.list (take l.constant-index l.constant-items)) (range_with_len 0 (length l.list.program.sections))
+abbrev pub invariant-loop-place : goal.invariant-loop-place
+invariant-loop-place l = record {
+  so_far : l.items.items ++ terms_in l.list (drop l.place l.list.program.constants) l.section ≡ terms_in l.list l.list.program.constants l.section;
+  own : BeginsIn l.section (drop l.place l.list.program.constants);
+}
+
+abbrev pub decreases-loop-place : goal.decreases-loop-place
+decreases-loop-place l = length l.list.program.constants - l.place

@@ -1,8 +1,7 @@
-use Rattle.std.proofs.Common.{length}
-use Rattle.mod_write.proofs.Gathered.{sorted_items}
+use Rattle.std.proofs.Common.{ap, ◌∙◌}
+use Rattle.member_model.specs.Chunks.{by_address}
+use Rattle.mod_write.proofs.Chaining.{sorted_terms}
 use Rattle.mod_write.proofs.items.section_items.Goals as goal
 
-pub returns-clause-value : goal.returns-clause-value
-returns-clause-value c =
-    sorted_items c.args.list.now (length c.args.list.now.program.sections) c.in_ok-items.items.items c.sort_each.new.items.items
-    c.in_ok-items.ensures.value c.in_ok-sort_each.ensures
+pub returns : goal.returns
+returns c = c.in_ok-by_address.ensures ∙ (ap by_address c.in_ok-items.ensures ∙ sorted_terms c.args.list.now c.args.section)

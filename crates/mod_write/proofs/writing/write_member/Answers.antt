@@ -13,5 +13,5 @@ returns-clause-member g c =
 pub returns-clause-stowable : goal.returns-clause-stowable
 returns-clause-stowable g c =
     member_stowable (laid c.args.p.now c.args.tree.now c.args.t.now) c.in_ok-list.list c.args.a.now c.args.who c.in_ok-aliases.aliases c.attribute.result c.item_of.result
-    c.in_ok-records.records c.in_ok-list.ensures c.requires.linked.placed c.in_ok-items.ensures.can c.requires.points
+    c.in_ok-records.records c.in_ok-list.ensures c.requires.linked.placed c.in_ok-chains.ensures.can c.requires.points
     (c.in_ok-aliases.ensures ∙ ap (map (alias_at c.in_ok-list.list)) c.as_slice.ensures) c.in_ok-records.ensures.sizes
