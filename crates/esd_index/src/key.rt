@@ -1,10 +1,10 @@
 //! What may be referred to, and the items that bring it.
 ghost use Rattle.std.specs.Prelude.{◌≡◌, map, option_map};
-ghost use Rattle.sym_mod.specs.Kinds.{is_sd, is_register};
+ghost use Rattle.sym_mod.specs.Kinds.{is_register};
 ghost use Rattle.linking_model.specs.Kept.{symbol_of, section_symbol};
 ghost use Rattle.esd_index.specs.Keys.{as_symbol, sight};
 ghost use Rattle.esd_index.specs.Parts.{stands_at};
-ghost use Rattle.esd_index.specs.Steps.{named_if, is_kept_section_by, is_kept_label_by, kept_label_by, flag_at, is_kept_over};
+ghost use Rattle.esd_index.specs.Steps.{named_if, is_kept_section_by, is_kept_label_by, kept_label_by, flag_at};
 
 use le_bytes::Name;
 use sym_mod::{Item, ItemKind};

@@ -47,7 +47,7 @@ impl Symbols {
     ///
     /// # Errors
     /// Want of memory.
-    pub fn put(&mut self, key: Key) -> Result<bool, AllocError>
+    fn put(&mut self, key: Key) -> Result<bool, AllocError>
         ensures noted { OnOk result (self.new.all ≡ with_first symbol_eq self.old.all (as_symbol key)) }
         ensures fresh { IfOk result (λ fresh. fresh ≡ not (list_any (symbol_eq (as_symbol key)) self.old.all)) }
         ensures marked { self.new.marked ≡ self.old.marked }

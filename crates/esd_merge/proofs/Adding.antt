@@ -21,10 +21,11 @@ use Rattle.esd_index.specs.Marked.{with_some}
 use Rattle.esd_index.specs.Contents.{Contents}
 use Rattle.esd_index.specs.Steps.{named_if, flag_at, kept_flags, kept_label_by, with_control, with_sight, with_sights, label_meant, with_target, with_constant}
 use Rattle.esd_index.specs.Modules.{kept_in_order, noted_module}
+use Rattle.esd_lists.specs.Indexed.{kept_label, named_in, labelled_in, content_of}
+use Rattle.esd_lists.proofs.Firsts.{name_sym, any_firsts, fold_some, firsts_more}
+use Rattle.esd_lists.proofs.Sights.{seen_at}
 use Rattle.esd_merge.specs.Added.{with_module}
-use Rattle.esd_merge.specs.Indexed.{kept_label, named_in, labelled_in, content_of}
-use Rattle.esd_merge.proofs.Firsts.{name_sym, any_firsts, fold_some, firsts_more}
-use Rattle.esd_merge.proofs.Sights.{sights_with, seen_at, sight_at_new}
+use Rattle.esd_merge.proofs.Grown.{sights_with, sight_at_new}
 use Rattle.esd_merge.proofs.Kept.{kept_in_old, kept_in_some, section_symbols_with, flags_are}
 use Rattle.esd_merge.proofs.Clashes.{IsMarked, outcome, clash_is, clash_in_new, marks_in, all_map, all_same_old, within_from}
 

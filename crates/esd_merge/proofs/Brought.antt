@@ -1,7 +1,7 @@
 -- The constants, texts and entries of a program are those of its definition.
-use Rattle.std.proofs.Common.{◌≡◌, ℕ, suc, ◌+◌, Bool, cond, List, [], ◌∷◌, ◌++◌, map, slice_get, Option, Some, None, unwrap_or, refl, sym, ap, ◌∙◌, arith, append-nil, append_assoc, filter_map, flat_map}
+use Rattle.std.proofs.Common.{◌≡◌, ℕ, suc, ◌+◌, List, [], ◌∷◌, ◌++◌, map, slice_get, Option, Some, None, unwrap_or, option_map, is_some, refl, sym, ap, ◌∙◌, arith, append-nil, append_assoc, filter_map, flat_map}
 use Rattle.std.specs.Prelude.{position}
-use Rattle.std.specs.List.{cons_option, position_from, enumerate_from}
+use Rattle.std.specs.List.{cons_option, enumerate_from}
 use Rattle.std.proofs.lemmas.Iterator.Adapters.{position_from-zero}
 use Rattle.le_bytes.specs.declared.name.Name.{Name}
 use Rattle.le_bytes.specs.Names.{name_eq}
@@ -25,31 +25,33 @@ use Rattle.sym_mod.specs.declared.program.Target.TheVariants.{Register as OfRegi
 use Rattle.sym_mod.specs.declared.program.Term.{Term}
 use Rattle.sym_mod.specs.Kinds.{kind_of}
 use Rattle.linking_model.specs.Names.{firsts}
-use Rattle.linking_model.specs.Kept.{Read, ByName, symbol_eq, section_number}
+use Rattle.linking_model.specs.Kept.{Read, Sight, ByName, symbol_eq, sight_at, section_number, kept_in}
 use Rattle.linking_model.specs.Merged.{labels, definition, register_items, register_of, registers, named_target, own_target, meaning, constant_of, constants, text_of, texts, start_of, starts}
 use Rattle.esd_index.specs.Contents.{Contents}
-use Rattle.esd_merge.specs.declared.reading.Reading.{Reading}
-use Rattle.esd_merge.specs.Indexed.{content_of}
-use Rattle.esd_merge.specs.Held.{as_read}
-use Rattle.esd_merge.specs.Looked.{number_by}
-use Rattle.esd_merge.specs.Numbered.{is_named_so}
-use Rattle.esd_merge.specs.Listed.{pushed, name_means, item_means, means, term_by, constant_by, start_by, text_by}
-use Rattle.esd_merge.specs.Whole.{Holds, Means, module_constants, constants_from, starts_from, module_texts, texts_from}
-use Rattle.esd_merge.proofs.Firsts.{name_sym}
-use Rattle.esd_merge.proofs.Parts.{fold_pushed, filter_map_ext, home_here, number_is, registers_is}
+use Rattle.esd_index.specs.Steps.{flag_at}
+use Rattle.esd_lists.specs.declared.reading.Reading.{Reading}
+use Rattle.esd_lists.specs.Indexed.{content_of, Holds}
+use Rattle.esd_lists.specs.Held.{as_read}
+use Rattle.esd_lists.specs.Looked.{number_by}
+use Rattle.esd_lists.specs.Numbered.{Means}
+use Rattle.esd_lists.specs.Listed.{pushed}
+use Rattle.esd_lists.proofs.Firsts.{name_sym}
+use Rattle.esd_lists.proofs.Parts.{fold_pushed, filter_map_ext, home_chosen, seen_is, number_is, registers_is}
+use Rattle.esd_lists.proofs.Numbers.{from_map, from_ext}
+use Rattle.esd_merge.specs.Meant.{home_at, name_means, item_means, means, term_by, constant_by, start_by, text_by}
+use Rattle.esd_merge.specs.Whole.{module_constants, constants_from, starts_from, module_texts, texts_from}
 
--- ---- places
+-- ---- homes
 
-from_map : {A B : Type 0} (p : B → Bool) (f : A → B) (n : ℕ) (xs : List A) → position_from p n (map f xs) ≡ position_from (λ x. p (f x)) n xs
-from_map p f n [] = refl
-from_map p f n (x ∷ xs) = ap (cond (p (f x)) (Some n)) (from_map p f (n + 1) xs)
+pub home_here : (c : Contents) (xs : List Reading) → Holds c xs → (k i : ℕ) (r : Reading) → slice_get xs k ≡ Some r → home_at c k r.segment r.read.items r.kept.items i ≡ kept_in (map as_read xs) k i
+unfolding home_at
+home_here c xs h k i r e =
+    let rs : List Read = map as_read xs in
+    let flag : flag_at r.kept.items i ≡ is_some (kept_in rs k i) = h.marked k r e i in
+    let seen : sight_at rs k i ≡ option_map (λ x. let z : Sight = record { of_module = k; number = i; segment = r.segment; item = x } in z) (slice_get r.read.items i) = sym (seen_is xs k i) ∙ rw e refl in
+    rw (number_is rs c h.indexed) (rw seen at (home_chosen rs k i (flag_at r.kept.items i) (sym flag)))
 
-from_ext : {A : Type 0} (p q : A → Bool) → ((x : A) → p x ≡ q x) → (n : ℕ) (xs : List A) → position_from p n xs ≡ position_from q n xs
-from_ext p q same n [] = refl
-from_ext p q same n (x ∷ xs) = rw (same x, from_ext p q same (n + 1) xs) refl
-
-pub numbered : {A : Type 0} (name : A → Name) (y : Name) (xs : List A) → position_from (is_named_so y) 0 (map name xs) ≡ position (λ x. name_eq (name x) y) xs
-numbered name y xs = from_map (is_named_so y) name 0 xs ∙ sym (position_from-zero (λ x. name_eq (name x) y) xs)
+-- ---- names
 
 name_case : (rs : List Read) (c : Contents) (L U : Name → Option ℕ) → c ≡ content_of rs → Means rs L U → (y : Name) (a b : Option ℕ)
     → section_number rs (ByName y) ≡ a → position (λ (x : Label). name_eq x.name y) (labels rs) ≡ b → name_means c L U y ≡ named_target rs y (definition rs y)

@@ -19,10 +19,12 @@ use Rattle.linking_model.specs.Merged.{is_kept_section, is_kept_label, has_name_
 use Rattle.esd_index.specs.Marked.{with_some}
 use Rattle.esd_index.specs.Contents.{Contents}
 use Rattle.esd_index.specs.Steps.{flag_at, kept_label_by, clashes_over, with_sight, with_sights}
+use Rattle.esd_lists.specs.Indexed.{kept_label}
+use Rattle.esd_lists.proofs.Firsts.{name_same, name_sym, any_firsts}
+use Rattle.esd_lists.proofs.Sights.{any_find, find_passes, find_among, seen_at}
+use Rattle.esd_lists.proofs.Unknowns.{any_or, any_label}
 use Rattle.esd_merge.specs.Added.{with_module}
-use Rattle.esd_merge.specs.Indexed.{kept_label}
-use Rattle.esd_merge.proofs.Firsts.{name_same, name_sym, any_firsts}
-use Rattle.esd_merge.proofs.Sights.{any_find, find_passes, find_among, sights_with, seen_at}
+use Rattle.esd_merge.proofs.Grown.{sights_with}
 use Rattle.esd_merge.proofs.Kept.{kept_as_old, kept_in_old, sd_named_itself}
 
 -- ---- tests
@@ -35,32 +37,9 @@ or_false : (b : Bool) → (b || false) ≡ b
 or_false true = refl
 or_false false = refl
 
-pub any_or : {A : Type 0} (p q r : A → Bool) (xs : List A) → list_any (λ x. (p x || q x) && r x) xs ≡ (list_any (λ x. q x && r x) xs || list_any (λ x. p x && r x) xs)
-any_or p q r [] = refl
-any_or p q r (x ∷ xs) = join (p x) (q x) (r x) (list_any (λ x. (p x || q x) && r x) xs) (list_any (λ x. q x && r x) xs) (list_any (λ x. p x && r x) xs) (any_or p q r xs)
-  where
-    join : (a b c d e f : Bool) → d ≡ (e || f) → ((a || b) && c || d) ≡ ((b && c || e) || (a && c || f))
-    join true true true d e f h = refl
-    join true true false d e f h = h
-    join true false true d e f h = sym (or_true e)
-    join true false false d e f h = h
-    join false true true d e f h = refl
-    join false true false d e f h = h
-    join false false c d e f h = h
-
 pub any_same : {A : Type 0} (p q : A → Bool) (xs : List A) → AllByRecursion (λ x. p x ≡ q x) xs → list_any p xs ≡ list_any q xs
 any_same p q [] all = refl
 any_same p q (x ∷ xs) all = rw (all.0, any_same p q xs all.1) refl
-
-label_among : (rs : List Read) (y : Name) (x : Sight) (xs : List Sight) (b : Bool) → list_any (symbol_eq (ByName y)) (filter_map (kept_label rs) xs) ≡ list_any (λ z. is_kept_label rs z && name_eq y z.item.name) xs
-    → list_any (symbol_eq (ByName y)) (cons_option (cond b (Some (ByName x.item.name)) None) (filter_map (kept_label rs) xs))
-    ≡ (b && name_eq y x.item.name || list_any (λ z. is_kept_label rs z && name_eq y z.item.name) xs)
-label_among rs y x xs true more = rw more refl
-label_among rs y x xs false more = more
-
-pub any_label : (rs : List Read) (y : Name) (xs : List Sight) → list_any (symbol_eq (ByName y)) (filter_map (kept_label rs) xs) ≡ list_any (λ z. is_kept_label rs z && name_eq y z.item.name) xs
-any_label rs y [] = refl
-any_label rs y (x ∷ xs) = label_among rs y x xs (is_kept_label rs x) (any_label rs y xs)
 
 abbrev is_named_section : ItemKind → Bool
 is_named_section k = is_sd k || is_cm k

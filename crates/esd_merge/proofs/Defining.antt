@@ -12,13 +12,12 @@ use Rattle.sym_mod.specs.Kinds.{kind_of, is_label}
 use Rattle.linking_model.specs.Kept.{Read, Sight, Symbol, ByName, Private, sights, section_number, kept_in, appearance}
 use Rattle.linking_model.specs.Merged.{label_at, is_label_named, label_of, labels, definition, is_kept_label}
 use Rattle.esd_index.specs.Contents.{Contents}
-use Rattle.esd_merge.specs.Indexed.{kept_label, content_of}
-use Rattle.esd_merge.specs.Listed.{has}
+use Rattle.esd_lists.specs.Indexed.{kept_label, content_of}
+use Rattle.esd_lists.specs.Listed.{has}
+use Rattle.esd_lists.proofs.Firsts.{name_sym, any_firsts}
+use Rattle.esd_lists.proofs.Sights.{any_find, find_passes, find_among}
+use Rattle.esd_lists.proofs.Unknowns.{any_label, kept_label_named, one_answer, head_any, head_some, head_name, some_map, both_true}
 use Rattle.esd_merge.specs.Rest.{label_from}
-use Rattle.esd_merge.proofs.Firsts.{name_sym, any_firsts}
-use Rattle.esd_merge.proofs.Sights.{any_find, find_passes, find_among}
-use Rattle.esd_merge.proofs.Clashes.{any_label}
-use Rattle.esd_merge.proofs.Unknowns.{kept_label_named, one_answer, head_any, head_some, head_name, some_map, both_true}
 
 some_test : {A : Type 0} (o : Option A) → option_map_or (λ (x : A). true) o false ≡ is_some o
 some_test None = refl

@@ -13,8 +13,8 @@ use Rattle.sym_mod.specs.Kinds.{kind_of, has_text}
 use Rattle.linking_model.specs.Names.{with_first}
 use Rattle.linking_model.specs.Kept.{Read, Sight, Symbol, section_symbol_for, ByName, Private, symbol_eq, sights, sights_in, sights_from, is_at, sight_at, is_area_named, kept_sd, areas, kept_as, section_symbol, section_symbols, section_number, kept_in}
 use Rattle.linking_model.specs.Merged.{greatest_length, named_section, private_section, section_of, sections}
-use Rattle.esd_merge.proofs.Firsts.{name_refl, symbol_same, position_is}
-use Rattle.esd_merge.proofs.Sights.{sight_at_is}
+use Rattle.esd_lists.proofs.Firsts.{name_refl, symbol_same, position_is}
+use Rattle.esd_lists.proofs.Sights.{sight_at_is}
 
 -- ---- each sight stands at its place
 

@@ -19,9 +19,10 @@ use Rattle.sym_mod.specs.Kinds.{kind_of}
 use Rattle.linking_model.specs.Kept.{Sight, section_symbol, section_symbol_for}
 use Rattle.esd_index.specs.Contents.{Contents}
 use Rattle.esd_index.specs.Steps.{flag_at}
-use Rattle.esd_merge.specs.declared.reading.Reading.{Reading}
-use Rattle.esd_merge.specs.Looked.{number_by}
-use Rattle.esd_merge.specs.Listed.{pushed, home_at, item_means, means, name_means, term_by, constant_by, start_by, text_by}
+use Rattle.esd_lists.specs.declared.reading.Reading.{Reading}
+use Rattle.esd_lists.specs.Looked.{number_by}
+use Rattle.esd_lists.specs.Listed.{pushed}
+use Rattle.esd_merge.specs.Meant.{home_at, item_means, means, name_means, term_by, constant_by, start_by, text_by}
 use Rattle.esd_merge.specs.Tabled.{each_from, homes_of, target_at, targets_of, home_in, means_in, term_in, constant_in, start_in, text_in}
 use Rattle.esd_merge.specs.Whole.{module_constants, module_texts}
 

@@ -14,12 +14,14 @@ use Rattle.sym_mod.specs.declared.module.ItemKind.TheVariants.{Sd, Pc, Cm, Label
 use Rattle.sym_mod.specs.declared.module.SymModule.{SymModule}
 use Rattle.sym_mod.specs.Kinds.{kind_of, is_sd}
 use Rattle.linking_model.specs.Names.{with_first, firsts}
-use Rattle.linking_model.specs.Kept.{Read, Sight, Symbol, ByName, symbol_eq, sights_in, sights, is_at, sight_at, is_sd_named, kept_sd, kept_as, kept_symbol, section_symbol_for, section_symbol, section_symbols, section_number, kept_in}
+use Rattle.linking_model.specs.Kept.{Read, Sight, Symbol, ByName, symbol_eq, sights_in, sights, is_at, sight_at, is_sd_named, kept_sd, kept_as, kept_symbol, section_symbol, section_symbols, section_number, kept_in}
 use Rattle.esd_index.specs.Marked.{with_some}
 use Rattle.esd_index.specs.Steps.{named_if, flag_at, is_kept_over, kept_flags}
+use Rattle.esd_lists.proofs.Firsts.{name_refl, name_sym, any_with_first, any_firsts, firsts_more, position_stays, position_found}
+use Rattle.esd_lists.proofs.Sights.{any_find, find_among, find_mapped, seen_at}
+use Rattle.esd_lists.proofs.Sections.{first_or_none, kept_as_section}
 use Rattle.esd_merge.specs.Added.{with_module}
-use Rattle.esd_merge.proofs.Firsts.{name_refl, name_sym, any_with_first, any_firsts, firsts_more, position_stays, position_found}
-use Rattle.esd_merge.proofs.Sights.{any_find, find_among, find_mapped, sights_with, seen_at, sight_at_old}
+use Rattle.esd_merge.proofs.Grown.{sights_with, sight_at_old}
 
 -- ---- the first SD of a name
 
@@ -36,9 +38,6 @@ kept_sd_old rs m s y e =
 
 pub sd_named_itself : (x : Sight) → kind_of x.item ≡ Sd → is_sd_named x.item.name x ≡ true
 sd_named_itself x e = rw (e, name_refl x.item.name) refl
-
-abbrev first_or_none : Sight → Option Sight → Option Symbol
-first_or_none x o = option_and_then (λ first. cond (is_at first.of_module first.number x) (Some (ByName x.item.name)) None) o
 
 pub kept_as_old : (rs : List Read) (m : SymModule) (s : ℕ) (x : Sight) (kind : ItemKind) → (kind ≡ Sd → list_any (is_sd_named x.item.name) (sights rs) ≡ true)
     → kept_as (with_module rs m s) x kind ≡ kept_as rs x kind
@@ -68,24 +67,6 @@ section_symbols_with rs m s =
     ap (λ (xs : List Sight). firsts symbol_eq (filter_map section_symbol xs)) (sights_with rs m s)
     ∙ ap (firsts symbol_eq) (filter_map-append section_symbol (sights rs) (sights_in (length rs) s 0 m.items))
     ∙ firsts_more (filter_map section_symbol (sights rs)) (filter_map section_symbol (sights_in (length rs) s 0 m.items))
-
-first_is : (x f : Sight) (y : Symbol) (b : Bool) → cond b (Some (ByName x.item.name)) None ≡ Some y → Some (ByName x.item.name) ≡ Some y
-first_is x f y true e = e
-first_is x f y false e = absurd cc
-
-first_named : (x : Sight) (o : Option Sight) (y : Symbol) → first_or_none x o ≡ Some y → Some (ByName x.item.name) ≡ Some y
-first_named x None y e = absurd cc
-first_named x (Some f) y e = first_is x f y (is_at f.of_module f.number x) e
-
--- a section is kept as its own symbol
-pub kept_as_section : (rs : List Read) (x : Sight) (kind : ItemKind) (y : Symbol) → kept_as rs x kind ≡ Some y → section_symbol_for x kind ≡ Some y
-kept_as_section rs x Sd y e = first_named x (kept_sd rs x.item.name) y e
-kept_as_section rs x Pc y e = e
-kept_as_section rs x Cm y e = e
-kept_as_section rs x Label y e = absurd cc
-kept_as_section rs x Er y e = absurd cc
-kept_as_section rs x Wx y e = absurd cc
-kept_as_section rs x Register y e = absurd cc
 
 placed_found : (rs : List Read) (k i : ℕ) (o : Option Sight) (y : Symbol) → sight_at rs k i ≡ o → option_and_then (λ x. kept_as rs x (kind_of x.item)) o ≡ Some y
     → list_any (symbol_eq y) (section_symbols rs) ≡ true

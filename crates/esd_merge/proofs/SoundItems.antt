@@ -29,11 +29,11 @@ use Rattle.sym_mod.specs.Sound.{HasName, IsAddress, IsAlignment, HasProperName, 
 use Rattle.linking_model.specs.Names.{firsts}
 use Rattle.linking_model.specs.Kept.{Read, Sight, Symbol, ByName, Private, sights, sights_in, sights_from, is_at, sight_at, is_sd_named, is_area_named, kept_sd, areas, kept_as, section_symbol_for, section_symbol, section_symbols, section_number, kept_in, kept_constants, appearance, rank_of}
 use Rattle.linking_model.specs.Merged.{named_section, private_section, section_of, sections, label_at, is_label_named, kept_labels, label_of, labels, definition, has_item, is_referred, is_name_target, is_label_target, is_referenced, is_weak, unknown_of, unresolved, register_items, register_of, registers, start_of, starts, program_of}
+use Rattle.esd_lists.proofs.Firsts.{name_same, name_refl}
+use Rattle.esd_lists.proofs.Sights.{find_passes, find_among, sight_at_is, seen_at}
+use Rattle.esd_lists.proofs.Each.{both_true, either_true, all_at, all_made, all_given, all_mapped, all_passing, all_less, all_join, any_found, all_fold, all_in_order}
 use Rattle.esd_merge.specs.Added.{IsSoundRead, IsMerged}
-use Rattle.esd_merge.proofs.Firsts.{name_same, name_refl}
-use Rattle.esd_merge.proofs.Sights.{find_passes, find_among, sight_at_is, seen_at}
 use Rattle.esd_merge.proofs.Homes.{IsLocated, located, all_found, Fits, fits_case, number_at, aligned}
-use Rattle.esd_merge.proofs.Each.{both_true, either_true, all_at, all_made, all_given, all_mapped, all_passing, all_less, all_join, any_found, all_fold, all_in_order}
 
 -- ---- the items that are seen
 

@@ -20,14 +20,17 @@ use Rattle.linking_model.specs.Names.{firsts}
 use Rattle.linking_model.specs.Kept.{Read, Sight, Symbol, ByName, Private, symbol_eq, sights, section_symbol, section_symbols, kept_sd, sight_at, kept_as, kept_in, seen_in, appearance}
 use Rattle.linking_model.specs.Merged.{named_section, private_section, section_of, sections, label_at, is_label_named, label_of, labels, definition, is_kept_section, is_kept_label, clashes, first_clash, double_definition, is_referenced, is_weak, unknown_of, unresolved, register_items, register_of, registers, program_of}
 use Rattle.esd_index.specs.Steps.{named_if}
+use Rattle.esd_lists.specs.Indexed.{content_of}
+use Rattle.esd_lists.specs.Listed.{has}
+use Rattle.esd_lists.proofs.Firsts.{name_same, name_refl, name_sym, symbol_refl, symbol_same, any_firsts}
+use Rattle.esd_lists.proofs.Unknowns.{any_or, both_true, head_any, head_name, some_map, labels_any, labels_has, defined_is}
+use Rattle.esd_lists.proofs.Registers.{register_symbols}
+use Rattle.esd_lists.proofs.Small.{section_appears, filter_map_short}
+use Rattle.esd_lists.proofs.Distinct.{symbols_equal, firsts_distinct}
 use Rattle.esd_merge.specs.Added.{IsMerged}
-use Rattle.esd_merge.specs.Indexed.{content_of}
-use Rattle.esd_merge.specs.Listed.{has}
-use Rattle.esd_merge.proofs.Firsts.{name_same, name_refl, name_sym, symbol_refl, symbol_same, any_firsts}
-use Rattle.esd_merge.proofs.Clashes.{any_or, any_section, any_kept, all_map}
-use Rattle.esd_merge.proofs.Unknowns.{both_true, head_any, head_name, some_map, labels_any, labels_has, defined_is}
-use Rattle.esd_merge.proofs.Joining.{register_symbols, no_clash}
-use Rattle.esd_merge.proofs.Small.{symbols_equal, firsts_distinct, section_appears, filter_map_short, few}
+use Rattle.esd_merge.proofs.Clashes.{any_section, any_kept, all_map}
+use Rattle.esd_merge.proofs.Joining.{no_clash}
+use Rattle.esd_merge.proofs.Few.{few}
 
 -- ---- lists
 

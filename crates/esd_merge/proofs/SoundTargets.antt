@@ -26,11 +26,11 @@ use Rattle.sym_mod.specs.Sound.{is_register_named, RefersToSymbol, FitsKind, IsS
 use Rattle.linking_model.specs.Names.{in_order, inserted}
 use Rattle.linking_model.specs.Kept.{Read, Sight, Symbol, ByName, Private, symbol_eq, sights, sights_in, is_at, sight_at, symbol_of, section_symbol, section_symbols, section_number, kept_in, stands_before, kept_constants, name_in, referred_names, seen_in, appearance}
 use Rattle.linking_model.specs.Merged.{sections, labels, definition, has_item, is_referred, is_name_target, is_label_target, is_referenced, unknown_of, unresolved, registers, named_target, own_target, meaning, program_of}
-use Rattle.esd_merge.specs.Indexed.{content_of}
-use Rattle.esd_merge.specs.Listed.{has}
-use Rattle.esd_merge.proofs.Firsts.{name_refl, any_firsts, position_is, position_found}
-use Rattle.esd_merge.proofs.Sights.{any_find, find_among, find_mapped, seen_at, sight_at_is}
-use Rattle.esd_merge.proofs.Unknowns.{appears, any_flat, any_options, any_named, symbol_passes, both_true}
+use Rattle.esd_lists.specs.Indexed.{content_of}
+use Rattle.esd_lists.specs.Listed.{has}
+use Rattle.esd_lists.proofs.Firsts.{name_refl, any_firsts, position_is, position_found}
+use Rattle.esd_lists.proofs.Sights.{any_find, find_among, find_mapped, seen_at, sight_at_is}
+use Rattle.esd_lists.proofs.Unknowns.{appears, any_flat, any_options, any_named, symbol_passes, both_true}
 use Rattle.esd_merge.proofs.Defining.{in_section}
 use Rattle.esd_merge.proofs.Brought.{register_place}
 use Rattle.esd_merge.proofs.SoundLists.{some_and, section_low}

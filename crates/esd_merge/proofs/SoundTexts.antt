@@ -20,8 +20,8 @@ use Rattle.sym_mod.specs.Kinds.{kind_of, has_text}
 use Rattle.sym_mod.specs.Sound.{IsAddress, FitsKind, TargetFitsKind, HaveProperSigns, LieInItem, LieInSection, IsSoundModule, IsSoundConst, IsSoundConstant, AreApart, ConstantsApart}
 use Rattle.linking_model.specs.Kept.{Read, Sight, Symbol, ByName, Private, sights, is_at, sight_at, kept_sd, kept_as, kept_symbol, section_symbols, section_number, kept_in}
 use Rattle.linking_model.specs.Merged.{sections, meaning, constant_of, constants, text_of, texts, program_of}
+use Rattle.esd_lists.proofs.Sights.{find_passes, seen_at}
 use Rattle.esd_merge.specs.Added.{IsSoundRead, IsMerged}
-use Rattle.esd_merge.proofs.Sights.{find_passes, seen_at}
 use Rattle.esd_merge.proofs.Homes.{IsLocated, located, all_found, Fits, fits_case, first_named, name_case, number_at, both_true, num_same}
 use Rattle.esd_merge.proofs.SoundTargets.{IsIn, all_in, seen_here, target_fits}
 use Rattle.esd_merge.proofs.SoundLists.{recursion, all_both, all_join, all_onto, all_mapped, Pairs, pairs_from, pairs_to, pairs_mapped, pairs_join, all_at, and_then_some, map_some, some_and, section_at}

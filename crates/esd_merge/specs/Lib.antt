@@ -1,14 +1,8 @@
 pub mod Added
 pub mod Entered
-pub mod Gathered
-pub mod Held
-pub mod Indexed
 pub mod Inside
 pub mod Left
-pub mod Listed
-pub mod Looked
-pub mod Numbered
+pub mod Meant
 pub mod Rest
 pub mod Tabled
-pub mod Walked
 pub mod Whole

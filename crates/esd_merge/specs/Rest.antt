@@ -8,7 +8,7 @@ use Rattle.esd_index.specs.Contents.{Contents, now_of}
 use Rattle.esd_index.specs.Keys.{as_symbol}
 use Rattle.esd_merge.specs.declared.unres.Unres.{Unres}
 use Rattle.esd_merge.specs.Left.{name_pairs}
-use Rattle.esd_merge.specs.Listed.{has, unknown_by}
+use Rattle.esd_lists.specs.Listed.{has, unknown_by}
 
 -- the unresolved names among symbols
 abbrev pub names_in : Contents → List Symbol → List (Name × Bool)

@@ -19,7 +19,7 @@ use Rattle.sym_mod.specs.declared.program.Target.{Target}
 use Rattle.sym_mod.specs.declared.program.Target.TheVariants.{Register as OfRegister, Total}
 use Rattle.linking_model.specs.Kept.{ByName, symbol_eq}
 use Rattle.esd_index.specs.Contents.{Contents}
-use Rattle.esd_merge.specs.Listed.{home_at, name_means, item_means}
+use Rattle.esd_merge.specs.Meant.{home_at, name_means, item_means}
 
 -- for each item, numbered from n on, what f says of its number
 abbrev pub each_from : {A : Type 0} → (ℕ → A) → ℕ → List Item → List A

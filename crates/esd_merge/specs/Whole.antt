@@ -1,33 +1,13 @@
 -- What the modules bring, one after the other.
-use Rattle.std.specs.Prelude.{◌≡◌, ℕ, ◌+◌, List, [], ◌∷◌, map, fold, position, Option}
+use Rattle.std.specs.Prelude.{ℕ, ◌+◌, List, [], ◌∷◌, fold, Option}
 use Rattle.le_bytes.specs.declared.name.Name.{Name}
-use Rattle.le_bytes.specs.Names.{name_eq}
-use Rattle.sym_mod.specs.declared.program.Label.{Label}
-use Rattle.sym_mod.specs.declared.program.Unknown.{Unknown}
 use Rattle.sym_mod.specs.declared.program.Text.{Text}
 use Rattle.sym_mod.specs.declared.program.Constant.{Constant}
 use Rattle.sym_mod.specs.declared.program.StartAt.{StartAt}
-use Rattle.linking_model.specs.Kept.{Read}
-use Rattle.linking_model.specs.Merged.{labels, unresolved}
 use Rattle.esd_index.specs.Contents.{Contents}
-use Rattle.esd_merge.specs.declared.reading.Reading.{Reading}
-use Rattle.esd_merge.specs.Added.{IsMerged}
-use Rattle.esd_merge.specs.Indexed.{content_of}
-use Rattle.esd_merge.specs.Held.{as_read, AreMarked}
-use Rattle.esd_merge.specs.Looked.{IsNumbered}
-use Rattle.esd_merge.specs.Listed.{pushed, constant_by, start_by, text_by}
-
--- the index is that of these modules
-pub record Holds (c : Contents) (xs : List Reading) : Type 0 where
-  pub merged : IsMerged (map as_read xs)
-  pub indexed : c ≡ content_of (map as_read xs)
-  pub marked : AreMarked (map as_read xs) xs
-  pub small : IsNumbered c
-
--- the numbers of labels and of unresolved names are those of the program of these modules
-pub record Means (rs : List Read) (labels_at unknowns_at : Name → Option ℕ) : Type 0 where
-  pub of_labels : (y : Name) → labels_at y ≡ position (λ (x : Label). name_eq x.name y) (labels rs)
-  pub of_unknowns : (y : Name) → unknowns_at y ≡ position (λ (x : Unknown). name_eq x.name y) (unresolved rs)
+use Rattle.esd_lists.specs.declared.reading.Reading.{Reading}
+use Rattle.esd_lists.specs.Listed.{pushed}
+use Rattle.esd_merge.specs.Meant.{constant_by, start_by, text_by}
 
 -- the list with the constants of module k at its end
 unfoldable pub module_constants : Contents → (Name → Option ℕ) → (Name → Option ℕ) → List Constant → ℕ → Reading → List Constant

@@ -5,21 +5,14 @@ ghost use Rattle.le_bytes.specs.Names.{name_eq};
 ghost use Rattle.esd_index.specs.Keys.{sight};
 ghost use Rattle.esd_index.specs.Contents.{now_of};
 ghost use Rattle.linking_model.specs.Kept.{symbol_eq, ByName, Private};
-ghost use Rattle.esd_merge.specs.Looked.{IsNumbered, number_by};
-ghost use Rattle.esd_merge.specs.Listed.{home_at, name_means, item_means};
+ghost use Rattle.esd_lists.specs.Looked.{IsNumbered, number_by};
+ghost use Rattle.esd_merge.specs.Meant.{home_at, name_means, item_means};
 
-use crate::lookups::{number_near, section_near};
 use esd_index::{Index, Key, Sighted, flag_at};
+use esd_lists::{Meanings, number_near, section_near};
 use le_bytes::Name;
 use std::collections::HashMap;
 use sym_mod::{Item, ItemKind, Target};
-
-/// What names mean: the numbers of labels and of unresolved names.
-#[derive(Drop)]
-pub(crate) struct Meanings {
-    pub(crate) labels: HashMap<Name, u32>,
-    pub(crate) unknowns: HashMap<Name, u32>,
-}
 
 /// A module as it stands among the others: its number, its segment, its items and their marks.
 #[derive(Clone, Copy)]
@@ -45,7 +38,7 @@ fn sighted(at: &Standing<'_>, number: usize) -> Option<Sighted>
 }
 
 /// The number of the section in which an item is kept. The number that is likely is tried first.
-#[tactic(auto, unfolding(crate::specs::Listed::home_at))]
+#[tactic(auto, unfolding(crate::specs::Meant::home_at))]
 pub(crate) fn home(index: &Index, at: &Standing<'_>, item: usize, likely: usize) -> Option<u32>
     requires { IsNumbered (now_of index.now) }
     ensures { result ≡ home_at (now_of index.now) at.now.number at.now.segment at.now.items.now at.now.kept.now item }
@@ -67,7 +60,7 @@ fn number_at(numbers: &HashMap<Name, u32>, name: &Name) -> u32
 }
 
 /// What a name means. The section of the number that is likely is tried first.
-#[tactic(auto, unfolding(crate::specs::Listed::name_means))]
+#[tactic(auto, unfolding(crate::specs::Meant::name_means))]
 pub(crate) fn name_means(index: &Index, meanings: &Meanings, name: Name, likely: usize) -> Target
     requires { IsNumbered (now_of index.now) }
     ensures { result ≡ name_means (now_of index.now) (get name_eq meanings.now.labels) (get name_eq meanings.now.unknowns) name }

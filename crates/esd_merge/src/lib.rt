@@ -3,17 +3,11 @@
 #![tactic(auto)]
 
 mod bringing;
-mod by_name;
 mod defined;
 mod entering;
 mod fault;
-mod gathering;
-mod listing;
-mod lookups;
 mod merged;
-mod numbering;
 mod program;
-mod reading;
 mod tabled;
 mod unres;
 

@@ -9,11 +9,10 @@ ghost use Rattle.esd_merge.specs.Left.{target_of, name_pairs};
 use crate::defined::Defined;
 use crate::entering::enter;
 use crate::fault::MergeFault;
-use crate::lookups::section_number;
-use crate::program::{bring, program_lists};
-use crate::reading::Reading;
+use crate::program::bring;
 use crate::unres::{Unres, label_number};
 use esd_index::{Index, Key};
+use esd_lists::{Lists, Reading, section_near};
 use le_bytes::{Memory, Name};
 use std::alloc::Global;
 use std::marker::Model;
@@ -29,7 +28,7 @@ pub struct Merged {
 impl Model for Merged {
     ghost use Rattle.std.specs.Prelude.{List, map};
     ghost use Rattle.linking_model.specs.Kept.{Read};
-    ghost use Rattle.esd_merge.specs.Held.{as_read};
+    ghost use Rattle.esd_lists.specs.Held.{as_read};
 
     ghost Value = { List Read };
 
@@ -102,7 +101,8 @@ impl Merged {
     pub fn define(&self, n: &Name) -> Option<Defined>
         ensures { target_of result ≡ definition self.now n.now }
     {
-        match section_number(&self.index, &Key::Named(*n)) {
+        // No place is likelier than another.
+        match section_near(&self.index, 0, &Key::Named(*n)) {
             Some(number) => Some(Defined::Section(number)),
             None => label_number(&self.index, n),
         }
@@ -117,8 +117,8 @@ impl Merged {
         ensures sound { IfOk result IsSoundProgram }
     {
         let Merged { reads, index } = self;
-        let lists = program_lists(alloc, &index, reads.as_slice())?;
+        let lists = Lists::of(alloc, &index, reads.as_slice())?;
         let brought = bring(alloc, &index, &lists.meanings, reads)?;
-        Ok(lists.with(brought))
+        Ok(brought.with(lists))
     }
 }

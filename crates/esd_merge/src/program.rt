@@ -1,98 +1,20 @@
-//! The program of the modules that were read.
-ghost use Rattle.std.specs.Prelude.{◌≡◌, ◌<◌, ◌≤◌, ◌^◌, ℕ, [], None, map, length, IfOk, OnOk};
+//! What the modules that were read bring to their program, one after the other.
+ghost use Rattle.std.specs.Prelude.{◌≡◌, [], IfOk, OnOk};
 ghost use Rattle.std.specs.HashMap.{get};
-ghost use Rattle.std.specs.List.{position_from};
-ghost use Rattle.le_bytes.specs.declared.name.Name.{Name};
 ghost use Rattle.le_bytes.specs.Names.{name_eq};
-ghost use Rattle.linking_model.specs.Merged.{sections, labels, unresolved, registers};
-ghost use Rattle.esd_index.specs.Keys.{sight};
 ghost use Rattle.esd_index.specs.Contents.{now_of};
-ghost use Rattle.esd_merge.specs.Held.{as_read};
-ghost use Rattle.esd_merge.specs.Looked.{IsNumbered};
-ghost use Rattle.esd_merge.specs.Gathered.{no_area, area_in, extent_in, label_step, control_listed, area_step, extent_step};
-ghost use Rattle.esd_merge.specs.Walked.{gathered_from};
-ghost use Rattle.esd_merge.specs.Listed.{pushed, start_by};
-ghost use Rattle.esd_merge.specs.Numbered.{is_named_so};
-ghost use Rattle.esd_merge.specs.Whole.{Holds, Means, module_constants, constants_from, starts_from, module_texts, texts_from};
+ghost use Rattle.esd_lists.specs.Looked.{IsNumbered};
+ghost use Rattle.esd_lists.specs.Listed.{pushed};
+ghost use Rattle.esd_merge.specs.Meant.{start_by};
+ghost use Rattle.esd_merge.specs.Whole.{module_constants, constants_from, starts_from, module_texts, texts_from};
 
-use crate::bringing::{Meanings, Standing};
-use crate::gathering::{Gathered, gather};
-use crate::listing::{push_some, unknowns};
-use crate::numbering::{label_numbers, unknown_numbers};
-use crate::reading::Reading;
+use crate::bringing::Standing;
 use crate::tabled::ItemTable;
 use esd_index::Index;
+use esd_lists::{Lists, Meanings, Reading, push_some};
 use le_bytes::Items;
 use std::alloc::{AllocError, Global};
-use sym_mod::{Constant, Label, Program, Register, Section, StartAt, SymModule, Text, Unknown};
-
-pub(crate) fn program_sections(
-    alloc: Global,
-    index: &Index,
-    reads: &[Reading],
-    gathered: &Gathered,
-) -> Result<Items<Section>, AllocError>
-    requires holds { Holds (now_of index.now) reads.now }
-    requires controls { map sight gathered.now.controls.items ≡ gathered_from (control_listed (now_of index.now).controls) [] 0 reads.now }
-    requires areas { (y : Name) → area_in (get name_eq gathered.now.areas y) ≡ gathered_from (area_step y) no_area 0 reads.now }
-    ensures { IfOk result (λ list. list ≡ sections (map as_read reads.now)) }
-{
-    let controls = gathered.controls.as_slice();
-    crate::listing::sections(alloc, index, reads, controls, &gathered.areas)
-}
-
-pub(crate) fn program_labels(
-    alloc: Global,
-    index: &Index,
-    reads: &[Reading],
-    gathered: &Gathered,
-) -> Result<Items<Label>, AllocError>
-    requires holds { Holds (now_of index.now) reads.now }
-    requires labels { (y : Name) → get name_eq gathered.now.labels y ≡ gathered_from (label_step (now_of index.now) reads.now y) None 0 reads.now }
-    ensures { IfOk result (λ list. list ≡ labels (map as_read reads.now)) }
-{
-    crate::listing::labels(alloc, index, &gathered.labels)
-}
-
-pub(crate) fn program_registers(
-    alloc: Global,
-    index: &Index,
-    reads: &[Reading],
-    gathered: &Gathered,
-) -> Result<Items<Register>, AllocError>
-    requires holds { Holds (now_of index.now) reads.now }
-    requires extents { (y : Name) → extent_in (get name_eq gathered.now.extents y) ≡ gathered_from (extent_step y) (extent_in None) 0 reads.now }
-    ensures { IfOk result (λ list. list ≡ registers (map as_read reads.now)) }
-{
-    crate::listing::registers(alloc, index, &gathered.extents)
-}
-
-pub(crate) fn program_unknowns(
-    alloc: Global,
-    index: &Index,
-    reads: &[Reading],
-) -> Result<Items<Unknown>, AllocError>
-    requires holds { Holds (now_of index.now) reads.now }
-    ensures { IfOk result (λ list. list ≡ unresolved (map as_read reads.now)) }
-{
-    unknowns(alloc, index)
-}
-
-/// The numbers of labels and of unresolved names.
-pub(crate) fn meanings(
-    alloc: Global,
-    labels: &[Label],
-    unknowns: &[Unknown],
-) -> Result<Meanings, AllocError>
-    requires labels { length labels.now ≤ 32511 }
-    requires unknowns { length unknowns.now ≤ 32511 }
-    ensures labels { IfOk result (λ m. (y : Name) → get name_eq m.labels y ≡ position_from (is_named_so y) 0 (map (λ (x : Label). x.name) labels.now)) }
-    ensures unknowns { IfOk result (λ m. (y : Name) → get name_eq m.unknowns y ≡ position_from (is_named_so y) 0 (map (λ (x : Unknown). x.name) unknowns.now)) }
-{
-    let labels = label_numbers(alloc, labels)?;
-    let unknowns = unknown_numbers(alloc, unknowns)?;
-    Ok(Meanings { labels, unknowns })
-}
+use sym_mod::{Constant, Program, StartAt, SymModule, Text};
 
 /// What the modules bring one after the other.
 #[derive(Drop)]
@@ -182,22 +104,12 @@ pub(crate) fn bring(
     Ok(brought)
 }
 
-/// The lists of a program that are made from names, and what the names mean.
-#[derive(Drop)]
-pub(crate) struct Lists {
-    sections: Items<Section>,
-    labels: Items<Label>,
-    unresolved: Items<Unknown>,
-    registers: Items<Register>,
-    pub(crate) meanings: Meanings,
-}
-
-impl Lists {
+impl Brought {
     ghost use Rattle.std.specs.Prelude.{◌≡◌};
 
-    /// The program with what the modules bring.
-    pub(crate) fn with(self, brought: Brought) -> Program
-        ensures { result ≡ record { sections = self.sections; labels = self.labels; unresolved = self.unresolved; registers = self.registers; texts = brought.texts; constants = brought.constants; starts = brought.starts } }
+    /// The program with these lists.
+    pub(crate) fn with(self, lists: Lists) -> Program
+        ensures { result ≡ record { sections = lists.sections; labels = lists.labels; unresolved = lists.unresolved; registers = lists.registers; texts = self.texts; constants = self.constants; starts = self.starts } }
     {
         let Lists {
             sections,
@@ -205,12 +117,12 @@ impl Lists {
             unresolved,
             registers,
             meanings: _,
-        } = self;
+        } = lists;
         let Brought {
             constants,
             texts,
             starts,
-        } = brought;
+        } = self;
         Program {
             sections,
             labels,
@@ -221,31 +133,4 @@ impl Lists {
             starts,
         }
     }
-}
-
-pub(crate) fn program_lists(
-    alloc: Global,
-    index: &Index,
-    reads: &[Reading],
-) -> Result<Lists, AllocError>
-    requires holds { Holds (now_of index.now) reads.now }
-    ensures sections { IfOk result (λ x. x.sections ≡ sections (map as_read reads.now)) }
-    ensures labels { IfOk result (λ x. x.labels ≡ labels (map as_read reads.now)) }
-    ensures unresolved { IfOk result (λ x. x.unresolved ≡ unresolved (map as_read reads.now)) }
-    ensures registers { IfOk result (λ x. x.registers ≡ registers (map as_read reads.now)) }
-    ensures meanings { IfOk result (λ x. Means (map as_read reads.now) (get name_eq x.meanings.labels) (get name_eq x.meanings.unknowns)) }
-{
-    let gathered = gather(alloc, index, reads)?;
-    let sections = program_sections(alloc, index, reads, &gathered)?;
-    let labels = program_labels(alloc, index, reads, &gathered)?;
-    let unresolved = program_unknowns(alloc, index, reads)?;
-    let registers = program_registers(alloc, index, reads, &gathered)?;
-    let meanings = meanings(alloc, labels.as_slice(), unresolved.as_slice())?;
-    Ok(Lists {
-        sections,
-        labels,
-        unresolved,
-        registers,
-        meanings,
-    })
 }

@@ -5,13 +5,14 @@ ghost use Rattle.std.specs.HashMap.{get};
 ghost use Rattle.le_bytes.specs.Names.{name_eq};
 ghost use Rattle.sym_mod.specs.declared.program.Target.TheVariants.{Section as InSection};
 ghost use Rattle.esd_index.specs.Contents.{now_of};
-ghost use Rattle.esd_merge.specs.Looked.{IsNumbered};
-ghost use Rattle.esd_merge.specs.Listed.{pushed, home_at};
+ghost use Rattle.esd_lists.specs.Looked.{IsNumbered};
+ghost use Rattle.esd_lists.specs.Listed.{pushed};
+ghost use Rattle.esd_merge.specs.Meant.{home_at};
 ghost use Rattle.esd_merge.specs.Tabled.{homes_of, target_at, targets_of, home_in, means_in, term_in, constant_in, start_in, text_in};
 
-use crate::bringing::{Meanings, Standing, home, kept_means, name_means, register_number};
-use crate::listing::push_some;
+use crate::bringing::{Standing, home, kept_means, name_means, register_number};
 use esd_index::Index;
+use esd_lists::{Meanings, push_some};
 use le_bytes::Items;
 use std::alloc::{AllocError, Global};
 use sym_mod::{

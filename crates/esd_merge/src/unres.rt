@@ -3,12 +3,12 @@ ghost use Rattle.std.specs.Prelude.{◌≡◌, ◌≤◌, filter_map, length, op
 ghost use Rattle.esd_index.specs.Keys.{as_symbol};
 ghost use Rattle.esd_index.specs.Contents.{now_of};
 ghost use Rattle.esd_merge.specs.Left.{target_of};
-ghost use Rattle.esd_merge.specs.Looked.{IsNumbered};
+ghost use Rattle.esd_lists.specs.Looked.{IsNumbered};
 ghost use Rattle.esd_merge.specs.Rest.{names_left, YieldsName, has_label_by, label_from};
 
 use crate::defined::Defined;
-use crate::listing::{has, unknown};
 use esd_index::{Index, Key};
+use esd_lists::unknown;
 use le_bytes::Name;
 
 /// The unresolved names in order of first appearance, each with whether it is weak.
@@ -16,6 +16,8 @@ use le_bytes::Name;
 pub struct Unres<'a> {
     index: &'a Index,
     rest: &'a [Key],
+    /// Where the next section is likely to stand.
+    next: usize,
 }
 
 impl<'a> Unres<'a> {
@@ -30,6 +32,7 @@ impl<'a> Unres<'a> {
         Unres {
             index,
             rest: index.table.symbols().keys(),
+            next: 0,
         }
     }
 }
@@ -41,7 +44,7 @@ impl Unres<'_> {
     {
         while let [key, rest @ ..] = self.rest {
             self.rest = rest;
-            if let Some(x) = unknown(self.index, key) {
+            if let Some(x) = unknown(self.index, &mut self.next, key) {
                 return Some((x.name, x.weak));
             }
         }
@@ -68,7 +71,7 @@ fn has_label(index: &Index, key: &Key) -> bool
     ensures { result ≡ has_label_by (now_of index.now) (as_symbol key.now) }
 {
     match key {
-        Key::Named(name) => has(&index.labels, *name),
+        Key::Named(_) => index.labels.has(key),
         Key::Private(..) => false,
     }
 }

@@ -21,7 +21,7 @@ use Rattle.obj_cards.specs.Rld.{rld_card}
 use Rattle.obj_cards.specs.End.{end_card}
 use Rattle.obj_cards.specs.Cards.{as_card, object_card, statement_card, card_of}
 use Rattle.member_laws.specs.Linkable.{HasEightBytes}
-use Rattle.esd_merge.proofs.Each.{all_join, either_true}
+use Rattle.esd_lists.proofs.Each.{all_join, either_true}
 
 some_same : {A : Type 0} {x y : A} → Some x ≡ Some y → x ≡ y
 some_same e = cc

@@ -38,7 +38,7 @@ use Rattle.obj_read.proofs.Labels.{labels_clear, proper_owner}
 use Rattle.member_laws.specs.Linkable.{HasEightBytes}
 use Rattle.linkable.specs.Whole.{RefersWhole, HasWholeTerms, LiesInText, IsWhole}
 use Rattle.linkable.proofs.Cards.{IsNamedItem, IsNamedCard, card_named}
-use Rattle.esd_merge.proofs.Each.{all_mapped, all_join}
+use Rattle.esd_lists.proofs.Each.{all_mapped, all_join}
 
 -- ---- items
 

@@ -18,7 +18,7 @@ use Rattle.member_model.specs.StandsFor.{AreBytes}
 use Rattle.esd_merge.specs.declared.fault.MergeFault.{MergeFault}
 use Rattle.esd_merge.specs.declared.fault.MergeFault.TheVariants.{DoubleDefinition, TooManySymbols, Memory}
 use Rattle.esd_merge.specs.Added.{with_module, merge_fault, IsMerged}
-use Rattle.esd_merge.proofs.Each.{all_join}
+use Rattle.esd_lists.proofs.Each.{all_join}
 use Rattle.esd_merge.proofs.Joining.{none_merged, next_merged}
 use Rattle.deck_steps.specs.declared.fault.DeckFault.{DeckFault}
 use Rattle.deck_steps.specs.Answers.{IsInRoot}

@@ -19,7 +19,7 @@ use Rattle.sym_mod.specs.Sound.{IsSoundProgram, IsSoundLabel, IsSoundStart}
 use Rattle.linking_model.specs.Settled.{has_root_section, is_section_named}
 use Rattle.linking_model.specs.Places.{segment_of_section}
 use Rattle.linking_model.specs.Points.{Point, in_root, label_point, point_of, start_point, first_of_root, default_point}
-use Rattle.esd_merge.proofs.Each.{all_at, all_made}
+use Rattle.esd_lists.proofs.Each.{all_at, all_made}
 use Rattle.esd_merge.proofs.Homes.{all_found}
 
 -- a byte of a section of the root, or its end

@@ -27,7 +27,7 @@ use Rattle.obj_cards.specs.Cards.{as_card, object_card, statement_card, card_of,
 use Rattle.obj_cards.proofs.Laying.{unused_filled}
 use Rattle.obj_cards.proofs.EndLaws.{small_length}
 use Rattle.obj_cards.proofs.RldLaws.{IsBytes, read_is_card}
-use Rattle.esd_merge.proofs.Each.{all_join}
+use Rattle.esd_lists.proofs.Each.{all_join}
 use Rattle.linkable.proofs.Cards.{three, chosen_ok, take_all}
 
 some_same : {A : Type 0} {x y : A} → Some x ≡ Some y → x ≡ y

@@ -15,8 +15,8 @@ use Rattle.sym_mod.specs.declared.program.Label.{Label}
 use Rattle.sym_mod.specs.Kinds.{kind_of, has_text, is_label}
 use Rattle.linking_model.specs.Kept.{Read, Sight, Symbol, ByName, Private, sights, sights_in, sights_from, sight_at, kept_in, appearance, rank_of}
 use Rattle.linking_model.specs.Merged.{sections, label_at, is_label_named, kept_labels, label_of, labels}
-use Rattle.esd_merge.proofs.Each.{both_true, all_at, all_made, all_given, all_passing, all_join}
-use Rattle.esd_merge.proofs.Sights.{seen_at, sight_at_is}
+use Rattle.esd_lists.proofs.Each.{both_true, all_at, all_made, all_given, all_passing, all_join}
+use Rattle.esd_lists.proofs.Sights.{seen_at, sight_at_is}
 use Rattle.esd_merge.proofs.Homes.{home_of}
 use Rattle.member_laws.specs.Linkable.{HasEightBytes, HasText}
 use Rattle.linkable.specs.Whole.{LiesInText, IsWholeRead}

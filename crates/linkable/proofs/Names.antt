@@ -21,7 +21,7 @@ use Rattle.linking_model.specs.Kept.{Read, Sight, Symbol, ByName, Private, sight
 use Rattle.linking_model.specs.Merged.{named_section, private_section, section_of, sections, unknown_of, unresolved, is_weak, register_items, register_of, registers}
 use Rattle.member_laws.specs.Linkable.{HasEightBytes}
 use Rattle.linkable.specs.Whole.{RefersWhole, HasWholeTerms, IsWhole, IsWholeRead}
-use Rattle.esd_merge.proofs.Each.{all_made, all_less, all_passing, all_join, all_fold, all_in_order}
+use Rattle.esd_lists.proofs.Each.{all_made, all_less, all_passing, all_join, all_fold, all_in_order}
 
 some_same : {A : Type 0} {x y : A} → Some x ≡ Some y → x ≡ y
 some_same e = cc

@@ -11,7 +11,7 @@ use Rattle.linking_model.specs.Merged.{named_section, private_section, section_o
 use Rattle.linking_model.specs.Settled.{settled, settled_segment}
 use Rattle.addr_assign.specs.Laid.{is_in_tree, are_in_tree}
 use Rattle.deck_steps.specs.Answers.{IsInRoot}
-use Rattle.esd_merge.proofs.Each.{all_made, all_given, all_join}
+use Rattle.esd_lists.proofs.Each.{all_made, all_given, all_join}
 use Rattle.esd_merge.proofs.Homes.{all_found}
 
 abbrev IsSeenInRoot : Sight → Type 0

@@ -10,7 +10,7 @@ use Rattle.linking_model.specs.Kept.{Read}
 use Rattle.linking_model.specs.Merged.{program_of}
 use Rattle.linking_model.specs.Tree.{plain}
 use Rattle.member_model.specs.StandsFor.{AreBytes}
-use Rattle.esd_merge.proofs.Each.{all_less}
+use Rattle.esd_lists.proofs.Each.{all_less}
 use Rattle.esd_merge.proofs.Sound.{program_sound}
 use Rattle.deck_steps.specs.Answers.{IsInRoot}
 use Rattle.deck_steps.specs.Decks.{decks_of}

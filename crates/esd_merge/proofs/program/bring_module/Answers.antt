@@ -2,7 +2,7 @@ use Rattle.std.proofs.Common.{◌∙◌}
 use Rattle.std.specs.HashMap.{get}
 use Rattle.le_bytes.specs.Names.{name_eq}
 use Rattle.esd_index.specs.Contents.{now_of}
-use Rattle.esd_merge.proofs.Gather.{on_ok}
+use Rattle.esd_lists.proofs.Gather.{on_ok}
 use Rattle.esd_merge.proofs.ItemTables.{constants_are, texts_are}
 use Rattle.esd_merge.proofs.program.bring_module.Goals as goal
 

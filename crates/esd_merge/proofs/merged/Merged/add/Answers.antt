@@ -3,11 +3,11 @@ use Rattle.std.proofs.lemmas.List.{length-map}
 use Rattle.linking_model.specs.Kept.{Read}
 use Rattle.esd_index.specs.Contents.{now_of}
 use Rattle.esd_index.specs.Modules.{noted_module}
-use Rattle.esd_merge.specs.declared.reading.Reading.{Reading}
+use Rattle.esd_lists.specs.declared.reading.Reading.{Reading}
+use Rattle.esd_lists.specs.Indexed.{content_of}
+use Rattle.esd_lists.specs.Held.{as_read, AreMarked}
 use Rattle.esd_merge.specs.Added.{AddAnswer, IsMerged, with_module}
 use Rattle.esd_merge.specs.Entered.{Enters}
-use Rattle.esd_merge.specs.Indexed.{content_of}
-use Rattle.esd_merge.specs.Held.{as_read, AreMarked}
 use Rattle.esd_merge.proofs.Joining.{refused, accepted, IsAdded, joined, next_marked, next_merged}
 use Rattle.esd_merge.proofs.merged.Merged.add.Goals.{in-Ok-push, in-Err-push}
 use Rattle.esd_merge.proofs.merged.Merged.add.Goals as goal

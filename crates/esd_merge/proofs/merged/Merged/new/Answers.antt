@@ -1,8 +1,8 @@
 use Rattle.std.proofs.Common.{◌≡◌, ◌∙◌, ap, sym, List, [], map, subst}
-use Rattle.esd_merge.specs.declared.reading.Reading.{Reading}
+use Rattle.esd_lists.specs.declared.reading.Reading.{Reading}
+use Rattle.esd_lists.specs.Indexed.{content_of}
+use Rattle.esd_lists.specs.Held.{as_read, AreMarked}
 use Rattle.esd_merge.specs.Added.{IsMerged}
-use Rattle.esd_merge.specs.Indexed.{content_of}
-use Rattle.esd_merge.specs.Held.{as_read, AreMarked}
 use Rattle.esd_merge.proofs.Joining.{none_merged, none_content}
 use Rattle.esd_merge.proofs.merged.Merged.new.Goals as goal
 

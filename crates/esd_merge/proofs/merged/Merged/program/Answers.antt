@@ -5,19 +5,19 @@ use Rattle.sym_mod.specs.Sound.{IsSoundProgram}
 use Rattle.linking_model.specs.Kept.{Read}
 use Rattle.linking_model.specs.Merged.{program_of}
 use Rattle.esd_index.specs.Contents.{now_of}
-use Rattle.esd_merge.specs.declared.reading.Reading.{Reading}
-use Rattle.esd_merge.specs.Held.{as_read}
-use Rattle.esd_merge.specs.Whole.{Holds, Means}
-use Rattle.esd_merge.proofs.Small.{is_small}
+use Rattle.esd_lists.specs.declared.reading.Reading.{Reading}
+use Rattle.esd_lists.specs.Held.{as_read}
+use Rattle.esd_lists.specs.Indexed.{Holds}
+use Rattle.esd_lists.specs.Numbered.{Means}
+use Rattle.esd_merge.proofs.Few.{is_small}
 use Rattle.esd_merge.proofs.Brought.{constants_are, texts_are, starts_are}
 use Rattle.esd_merge.proofs.Whole.{program_is}
 use Rattle.esd_merge.proofs.Sound.{program_sound}
 use Rattle.esd_merge.proofs.merged.Merged.program.Goals as goal
 
-pub program_lists-requires : goal.program_lists-requires
-program_lists-requires c = record {
+pub of-requires : goal.of-requires
+of-requires c = record {
   holds = subst (λ (xs : List Reading). Holds (now_of c.self.inside.index) xs) (sym c.as_slice.ensures.value) (record {
-    merged = c.self.invariant.merged;
     indexed = c.self.invariant.indexed;
     marked = c.self.invariant.marked;
     small = is_small (map as_read c.self.inside.reads.items) (now_of c.self.inside.index) c.self.invariant.merged c.self.invariant.indexed;
@@ -32,7 +32,6 @@ returns-clause-program c =
     let rs : List Read = map as_read c.self.inside.reads.items in
     let same : map as_read c.as_slice.result.now ≡ rs = ap (map as_read) c.as_slice.ensures.value in
     let holds : Holds (now_of c.self.inside.index) c.self.inside.reads.items = record {
-      merged = c.self.invariant.merged;
       indexed = c.self.invariant.indexed;
       marked = c.self.invariant.marked;
       small = is_small rs (now_of c.self.inside.index) c.self.invariant.merged c.self.invariant.indexed;

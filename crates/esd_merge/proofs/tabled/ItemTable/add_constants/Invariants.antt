@@ -2,7 +2,7 @@ use Rattle.std.proofs.Common.{◌≡◌, drop, fold}
 use Rattle.std.specs.HashMap.{get}
 use Rattle.le_bytes.specs.Names.{name_eq}
 use Rattle.esd_index.specs.Contents.{now_of}
-use Rattle.esd_merge.specs.Listed.{pushed}
+use Rattle.esd_lists.specs.Listed.{pushed}
 use Rattle.esd_merge.specs.Tabled.{constant_in}
 use Rattle.esd_merge.proofs.tabled.ItemTable.add_constants.Given as goal
 

@@ -1,6 +1,6 @@
 use Rattle.std.proofs.Common.{◌≡◌, fold}
 use Rattle.std.specs.Vec.Iter.{into_iter_items}
-use Rattle.esd_merge.specs.Listed.{pushed}
+use Rattle.esd_lists.specs.Listed.{pushed}
 use Rattle.esd_merge.specs.Tabled.{text_in}
 use Rattle.esd_merge.proofs.tabled.ItemTable.add_texts.Given as goal
 

@@ -1,7 +1,7 @@
 use Rattle.std.specs.HashMap.{get}
 use Rattle.le_bytes.specs.Names.{name_eq}
 use Rattle.esd_index.specs.Contents.{now_of}
-use Rattle.esd_merge.specs.Listed.{home_at}
+use Rattle.esd_merge.specs.Meant.{home_at}
 use Rattle.esd_merge.specs.Tabled.{target_at}
 use Rattle.esd_merge.proofs.ItemTables.{each_next}
 use Rattle.esd_merge.proofs.tabled.ItemTable.fill.Goals as goal

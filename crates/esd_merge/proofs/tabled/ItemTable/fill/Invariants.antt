@@ -2,7 +2,7 @@ use Rattle.std.proofs.Common.{◌≡◌, ◌++◌, drop}
 use Rattle.std.specs.HashMap.{get}
 use Rattle.le_bytes.specs.Names.{name_eq}
 use Rattle.esd_index.specs.Contents.{now_of}
-use Rattle.esd_merge.specs.Listed.{home_at}
+use Rattle.esd_merge.specs.Meant.{home_at}
 use Rattle.esd_merge.specs.Tabled.{each_from, homes_of, target_at, targets_of}
 use Rattle.esd_merge.proofs.tabled.ItemTable.fill.Given as goal
 

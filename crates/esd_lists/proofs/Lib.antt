@@ -1,0 +1,14 @@
+pub mod Firsts
+pub mod Sights
+pub mod Sections
+pub mod Distinct
+pub mod Each
+pub mod Places
+pub mod Gather
+pub mod Walking
+pub mod Registers
+pub mod Parts
+pub mod Unknowns
+pub mod Small
+pub mod Controls
+pub mod Numbers
