@@ -2,7 +2,7 @@
 # Times `link` beside the host's linkers. Decks: 20,000 and 1,000 of one section of 16 bytes with three constants each (a number's place for
 # its own address, the next section's, and a call of that), one section with 20,000 constants, and one section with 32,000 labels. Beside the first,
 # where they are installed, `ld`, `lld` and `mold` link one archive of 20,000 ELF objects with the same section and three relocations each.
-# Each command runs seven times in turn with the others; the least wall time counts, and the most memory.
+# Each command runs fifteen times in turn with the others, since a machine is seldom quiet; the least wall time counts, and the most memory.
 set -eu
 cd "$(dirname "$0")/.."
 program=$(find crates/linkedit/out -maxdepth 1 -type f -name linkedit | head -n 1)
@@ -115,7 +115,7 @@ if shutil.which("as"):
         if shutil.which(tool):
             runs["%s, 20,000 objects" % tool] = [tool, "-e", "S00001", "-o", work + "/linked", "--whole-archive", work + "/objects.a"]
 found = {what: [] for what in runs}
-for _ in range(7):
+for _ in range(15):
     for what, words in runs.items():
         if os.path.exists(work + "/library"):
             os.remove(work + "/library")
