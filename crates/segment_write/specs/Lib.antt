@@ -1,4 +1,5 @@
 pub mod Chunks
+pub mod Listed
 pub mod Pieces
 pub mod Records
 pub mod Writing

@@ -1,11 +1,12 @@
 //! Relocation items in chunks.
-ghost use Rattle.std.specs.Prelude.{◌≡◌, ◌+◌, ◌≤◌, ◌∷◌, [], ◌++◌, false, true, ℕ, List, All, length, map, if◌then◌else◌, IfOk, OnOk};
+ghost use Rattle.std.specs.Prelude.{◌≡◌, ◌+◌, ◌≤◌, ◌==◌, ◌∷◌, [], ◌++◌, false, true, ℕ, List, All, length, map, if◌then◌else◌, IfOk, OnOk};
 ghost use Rattle.load_recs.specs.ItemBytes.{IsRld, rld_item_bytes};
 ghost use Rattle.load_recs.specs.Relocations.{is_joined};
 ghost use Rattle.load_recs.specs.declared.items.RldItem.{RldItem as Item};
 ghost use Rattle.member_model.specs.Chunks.{chunks, chunk_bytes, same_pointers, room_after};
 ghost use Rattle.segment_write.specs.Chunks.{IsItem, IsChunk, told, size, begun, continued, closed, chunks_from};
 
+use crate::chunk_list::ChunkList;
 use le_bytes::{Bytes, Items, Memory};
 use load_recs::{RldItem, put_rld_item};
 use std::alloc::{AllocError, Global};
@@ -17,35 +18,41 @@ const MOST_BYTES: usize = 240;
 const FEWEST_ITEMS: usize = 30;
 
 /// Cuts relocation items into chunks, each of as many items as stand in 240 bytes, in one pass. An
-/// item that has the numbers of the one before it in its chunk does not say them again.
+/// item that has the numbers of the one before it in its chunk does not say them again. The first
+/// chunk takes the memory of `spare`, which then has none; without items it is left as it was.
 ///
 /// # Errors
 /// Want of memory.
-pub fn chunks(alloc: Global, items: &[RldItem]) -> Result<Items<Bytes>, Memory>
+pub fn chunks(alloc: Global, spare: &mut Bytes, items: &[RldItem]) -> Result<ChunkList, Memory>
     requires { All IsItem items.now }
     ensures value { IfOk result (λ made. made ≡ map chunk_bytes (chunks items.now)) }
     ensures kept { IfOk result (All IsChunk) }
+    ensures spare { spare.new ≡ (if length items.now == 0 then spare.old else []) }
 {
     let [first, rest @ ..] = items else {
-        return Ok(Items::new(alloc));
+        return Ok(ChunkList::new());
     };
-    filled(alloc, *first, rest)
+    filled(alloc, mem::replace(spare, Bytes::new(alloc)), *first, rest)
 }
 
-/// The chunks of an item and those after it.
-fn filled(alloc: Global, first: RldItem, rest: &[RldItem]) -> Result<Items<Bytes>, Memory>
+/// The chunks of an item and those after it, the first of them in memory that something else had.
+fn filled(
+    alloc: Global,
+    spare: Bytes,
+    first: RldItem,
+    rest: &[RldItem],
+) -> Result<ChunkList, Memory>
     requires first { IsItem first }
     requires rest { All IsItem rest.now }
     ensures value { IfOk result (λ made. made ≡ map chunk_bytes (chunks (first ∷ rest.now))) }
     ensures kept { IfOk result (All IsChunk) }
 {
-    let mut made = Items::from_vec(Vec::with_capacity(alloc, rest.len() / FEWEST_ITEMS + 1)?);
-    let mut chunk = Filling::begun(alloc, first, rest.len())?;
+    let mut made = Items::from_vec(Vec::with_capacity(alloc, rest.len() / FEWEST_ITEMS)?);
+    let mut chunk = Filling::begun(spare, first, rest.len())?;
     for item in rest {
         put_item(alloc, &mut made, &mut chunk, *item)?;
     }
-    made.push(chunk.closed()?)?;
-    Ok(made)
+    Ok(ChunkList::ending(made, chunk.closed()?))
 }
 
 /// Puts one more item into the chunk, or, where that has no room for it, closes the chunk and begins
@@ -64,7 +71,10 @@ fn put_item(
     ensures short { OnOk result (size chunk.new ≤ 240) }
 {
     if MOST_BYTES < chunk.size() + room_after(&chunk.last, &item) {
-        let full = mem::replace(chunk, Filling::begun(alloc, item, FEWEST_ITEMS)?);
+        let full = mem::replace(
+            chunk,
+            Filling::begun(Bytes::new(alloc), item, FEWEST_ITEMS)?,
+        );
         made.push(full.closed()?)?;
         return Ok(());
     }
@@ -95,15 +105,16 @@ pub(crate) struct Filling {
 }
 
 impl Filling {
-    /// A chunk of one item, with memory for so many after it, or for as many as a chunk has.
-    fn begun(alloc: Global, item: RldItem, after: usize) -> Result<Filling, AllocError>
+    /// A chunk of one item, with memory for so many after it, or for as many as a chunk has. The
+    /// memory that other bytes had serves first.
+    fn begun(spare: Bytes, item: RldItem, after: usize) -> Result<Filling, AllocError>
         ensures { IfOk result (λ chunk. chunk ≡ begun item) }
     {
+        let mut bytes = spare.into_vec();
+        bytes.clear();
+        bytes.reserve(8 * FEWEST_ITEMS.min(after.saturating_add(1)))?;
         Ok(Filling {
-            bytes: Bytes::from_vec(Vec::with_capacity(
-                alloc,
-                8 * FEWEST_ITEMS.min(after.saturating_add(1)),
-            )?),
+            bytes: Bytes::from_vec(bytes),
             last: item,
             short: false,
         })

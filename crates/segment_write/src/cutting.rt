@@ -12,7 +12,7 @@ use crate::chunking::chunks;
 use crate::piece::{Piece, PlacedPart};
 use crate::recording::SegmentRecords;
 use crate::text::{KeptText, PartText, WholePart, copied};
-use le_bytes::Memory;
+use le_bytes::{Bytes, Memory};
 use load_recs::RldItem;
 use std::alloc::Global;
 use text_store::TextKeeper;
@@ -85,7 +85,8 @@ fn add_pieces<T: PartText>(
         let at = most * k;
         let size = most.min(part.length - at);
         let (here, later) = rest.split_at(ending_before(rest, part.address + at + size));
-        records.put(alloc, piece(alloc, part, text, at, size, here)?)?;
+        let piece = piece(alloc, &mut records.spare, part, text, at, size, here)?;
+        records.put(alloc, piece)?;
         rest = later;
     }
     Ok(())
@@ -108,9 +109,11 @@ fn last_byte(item: &RldItem) -> u32
     item.address + (item.flag / 4 % 4) as u32
 }
 
-/// A piece of `size` bytes from place `at` of the part on, with these items.
+/// A piece of `size` bytes from place `at` of the part on, with these items, whose first chunk takes
+/// the memory of `spare`.
 fn piece<T: PartText>(
     alloc: Global,
+    spare: &mut Bytes,
     part: PlacedPart<'_>,
     text: &T,
     at: u32,
@@ -133,6 +136,6 @@ fn piece<T: PartText>(
         section: part.number,
         address: part.address + at,
         bytes: copied(alloc, text, at, size)?,
-        chunks: chunks(alloc, items)?,
+        chunks: chunks(alloc, spare, items)?,
     })
 }

@@ -2,6 +2,7 @@
 //! that end in it.
 #![tactic(auto)]
 
+mod chunk_list;
 mod chunking;
 mod cutting;
 mod piece;
@@ -10,6 +11,7 @@ mod recording;
 mod tests;
 mod text;
 
+pub use chunk_list::ChunkList;
 pub use chunking::chunks;
 pub use cutting::{add_section, add_table};
 pub use piece::PlacedPart;

@@ -1,5 +1,6 @@
 //! Parts of a member and the pieces of their text.
-use le_bytes::{Bytes, Items};
+use crate::chunk_list::ChunkList;
+use le_bytes::Bytes;
 use load_recs::RldItem;
 
 /// A part of a member that has text: a section or an overlay table.
@@ -16,7 +17,7 @@ pub struct PlacedPart<'a> {
 }
 
 /// A piece of the text of a part, for one text record.
-#[derive(Debug, Drop, PartialEq, Eq)]
+#[derive(Debug, Drop)]
 pub(crate) struct Piece {
     /// The number of the part's symbol item.
     pub section: u32,
@@ -24,5 +25,5 @@ pub(crate) struct Piece {
     pub address: u32,
     pub bytes: Bytes,
     /// The relocation items whose last byte lies in the piece, in chunks of at most 240 bytes.
-    pub chunks: Items<Bytes>,
+    pub chunks: ChunkList,
 }

@@ -8,10 +8,12 @@ ghost use Rattle.segment_write.specs.Pieces.{seen, IsPiece};
 ghost use Rattle.segment_write.specs.Records.{IsStored, text_records, chunk_records, but_last, last_of};
 ghost use Rattle.segment_write.specs.Writing.{IsReady, HasPieces};
 
+use crate::chunk_list::ChunkList;
 use crate::piece::Piece;
 use le_bytes::{Bytes, Items, Memory};
 use load_recs::{Ends, Rec, TextHead, write_rec};
 use std::alloc::{AllocError, Global};
+use std::mem;
 
 /// Neither a segment nor the module ends.
 const NOTHING: Ends = Ends {
@@ -26,6 +28,8 @@ const NOTHING: Ends = Ends {
 pub struct SegmentRecords {
     records: Records,
     held: Option<Piece>,
+    /// A chunk that a control record has said, whose memory serves the next chunk.
+    pub(crate) spare: Bytes,
 }
 
 impl SegmentRecords {
@@ -40,6 +44,7 @@ impl SegmentRecords {
         Ok(SegmentRecords {
             records: Records::new(alloc, pieces)?,
             held: None,
+            spare: Bytes::new(alloc),
         })
     }
 
@@ -50,9 +55,20 @@ impl SegmentRecords {
         ensures pieces { OnOk result ((before : List Seen) → HasPieces self.old before → HasPieces self.new (before ++ seen piece ∷ [])) }
         ensures ready { OnOk result (IsReady self.new) }
     {
-        match self.held.replace(piece) {
-            Some(before) => self.records.add(alloc, before),
-            None => Ok(()),
+        if let Some(before) = self.held.replace(piece) {
+            let said = self.records.add(alloc, before)?;
+            self.keep(said);
+        }
+        Ok(())
+    }
+
+    /// Keeps the memory of a chunk that has been said, where it has any.
+    fn keep(&mut self, said: Bytes)
+        ensures records { self.new.records ≡ self.old.records }
+        ensures held { self.new.held ≡ self.old.held }
+    {
+        if said.len() > 0 {
+            self.spare = said;
         }
     }
 
@@ -67,7 +83,7 @@ impl SegmentRecords {
         ensures value { IfOk result (λ records. (pieces : List Seen) → HasPieces self pieces → records ≡ map rec_bytes (records_or_empty ends pieces)) }
         ensures sizes { IfOk result (λ records. (pieces : List Seen) → HasPieces self pieces → All IsStored records) }
     {
-        let SegmentRecords { records, held } = self;
+        let SegmentRecords { records, held, .. } = self;
         match held {
             Some(piece) => records.end(alloc, piece, ends),
             None => records.empty(alloc, ends),
@@ -93,8 +109,8 @@ impl Records {
         })
     }
 
-    /// The records of a piece that others follow.
-    fn add(&mut self, alloc: Global, piece: Piece) -> Result<(), Memory>
+    /// Puts the records of a piece that others follow. Gives the chunk that joined its control record.
+    fn add(&mut self, alloc: Global, piece: Piece) -> Result<Bytes, Memory>
         requires carried { AreRlds self.old.carried }
         requires piece { IsPiece (seen piece) }
         ensures value { OnOk result (self.new ≡ record {
@@ -103,9 +119,10 @@ impl Records {
         }) }
         ensures carried { OnOk result (AreRlds self.new.carried) }
     {
-        let mut chunks = self.put_text(alloc, NOTHING, piece)?;
-        self.carried = last_taken(alloc, &mut chunks);
-        self.put_chunks(alloc, &chunks)
+        let (before, last) = self.put_text(alloc, NOTHING, piece)?.parted(alloc);
+        let said = mem::replace(&mut self.carried, last);
+        self.put_chunks(alloc, before.as_slice())?;
+        Ok(said)
     }
 
     /// The records with one that has no items.
@@ -129,20 +146,19 @@ impl Records {
             self.put_text(alloc, ends, piece)?;
             return Ok(self.done);
         }
-        let mut chunks = self.put_text(alloc, NOTHING, piece)?;
-        let last = last_taken(alloc, &mut chunks);
-        self.put_chunks(alloc, &chunks)?;
+        let (before, last) = self.put_text(alloc, NOTHING, piece)?.parted(alloc);
+        self.put_chunks(alloc, before.as_slice())?;
         self.put_chunk(alloc, ends, last.as_slice())?;
         Ok(self.done)
     }
 
     /// Puts a control record, with the chunk that joins it, and the text of a piece. Gives its chunks.
-    fn put_text(&mut self, alloc: Global, ends: Ends, piece: Piece) -> Result<Vec<Bytes>, Memory>
+    fn put_text(&mut self, alloc: Global, ends: Ends, piece: Piece) -> Result<ChunkList, Memory>
         requires carried { AreRlds self.old.carried }
         requires piece { IsPiece (seen piece) }
         requires ends { AreEnds ends }
         ensures value { OnOk result (self.new ≡ record self.old { done = self.old.done ++ map rec_bytes (text_records ends self.old.carried (seen piece)) }) }
-        ensures chunks { IfOk result (λ chunks. chunks.items ≡ piece.chunks) }
+        ensures chunks { IfOk result (λ chunks. chunks ≡ piece.chunks) }
     {
         let Piece {
             section,
@@ -159,7 +175,7 @@ impl Records {
         self.done
             .push(Bytes::from_vec(write_rec(alloc, &control)?))?;
         self.done.push(bytes)?;
-        Ok(chunks.into_vec())
+        Ok(chunks)
     }
 
     /// Puts records of chunks with which nothing ends.
@@ -183,14 +199,6 @@ impl Records {
         self.done.push(Bytes::from_vec(record))?;
         Ok(())
     }
-}
-
-/// The last chunk, empty where there is none, which leaves the list.
-fn last_taken(alloc: Global, chunks: &mut Vec<Bytes>) -> Bytes
-    ensures last { result ≡ last_of chunks.old.items }
-    ensures rest { chunks.new.items ≡ but_last chunks.old.items }
-{
-    chunks.pop().unwrap_or(Bytes::new(alloc))
 }
 
 /// A control record, with a chunk where one joins it.

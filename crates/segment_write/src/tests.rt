@@ -4,6 +4,7 @@ ghost use Rattle.segment_write.specs.Chunks.{IsItem};
 ghost use Rattle.segment_write.specs.Pieces.{last_byte};
 
 use crate::{PlacedPart, SegmentRecords, add_section, add_table, chunks};
+use le_bytes::Bytes;
 use load_recs::{Ends, RldItem};
 use std::test::Fail;
 use text_store::WholeText;
@@ -23,14 +24,14 @@ fn address_constant(address: u32) -> RldItem
 
 #[test]
 fn numbers_are_said_once_in_a_chunk(rt: HostRuntime) -> Result<(), Fail> {
-    let made = chunks(rt.alloc(), &[address_constant(4), address_constant(8)])?;
-    assert_eq!(rt; made.len(), 1);
-    for chunk in made.as_slice() {
-        assert_eq!(rt;
-            chunk.as_slice(),
-            [0, 2, 0, 1, 0x0D, 0, 0, 4, 0x0C, 0, 0, 8].as_slice()
-        );
-    }
+    let mut spare = Bytes::from_slice(rt.alloc(), &[1, 2, 3])?;
+    let items = [address_constant(4), address_constant(8)];
+    let (before, last) = chunks(rt.alloc(), &mut spare, &items)?.parted(rt.alloc());
+    assert_eq!(rt; before.len(), 0);
+    assert_eq!(rt;
+        last.as_slice(),
+        [0, 2, 0, 1, 0x0D, 0, 0, 4, 0x0C, 0, 0, 8].as_slice()
+    );
     Ok(())
 }
 

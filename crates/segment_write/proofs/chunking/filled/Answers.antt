@@ -1,4 +1,4 @@
-use Rattle.std.proofs.Common.{All, sym, ◌∙◌, subst}
+use Rattle.std.proofs.Common.{ℕ, List, [], ◌∷◌, ◌++◌, All, sym, ap, ◌∙◌, subst}
 use Rattle.segment_write.specs.Chunks.{IsChunk}
 use Rattle.segment_write.proofs.Filled.{all_closed}
 use Rattle.segment_write.proofs.Held.{held}
@@ -6,9 +6,10 @@ use Rattle.segment_write.proofs.chunking.filled.Goals as goal
 
 pub returns-clause-value : goal.returns-clause-value
 returns-clause-value c =
-    c.in_ok-push.ensures.ok
+    c.ending.ensures
+    ∙ (ap (λ (v : List (List ℕ)). v ++ c.in_ok-closed.field-0 ∷ []) c.made-2.view_is
     ∙ all_closed c.args.first c.args.rest.now c.loop-item.made c.loop-item.chunk c.loop-item.item-index c.in_ok-closed.field-0 c.requires.first c.requires.rest
-    c.loop-item.invariant.made c.loop-item-test.false c.in_ok-closed.ensures
+    c.loop-item.invariant.made c.loop-item-test.false c.in_ok-closed.ensures)
 
 pub returns-clause-kept : goal.returns-clause-kept
 returns-clause-kept c =

@@ -42,7 +42,7 @@ put-requires-clause-piece g c =
     let before : n * k < length bytes = rw whole there in
     let size : c.min-size.result ≡ min n (length bytes - n * k) = c.min-size.ensures ∙ ap (λ t. min n (t - n * k)) (sym whole) in
     let left = left_here part.address n k part.length part.items.now c.loop-k.rest.now there c.loop-k.invariant.rest in
-    let made : seen c.in_ok-piece.field-0 ≡ piece_number part.number part.address part.items.now n bytes k =
+    let made : seen c.in_ok-piece.piece ≡ piece_number part.number part.address part.items.now n bytes k =
     c.in_ok-piece.ensures.value
     ∙ piece_here part.number part.address n k c.min-size.result part.items.now c.loop-k.rest.now bytes before size c.requires.part.ordered left
     c.split_at.result.0.now (c.split_at.ensures.front ∙ ap (λ m. take m c.loop-k.rest.now) c.ending_before.ensures.value) in
@@ -64,15 +64,15 @@ loop-k-preserved g c =
     let before : n * k < length bytes = rw whole there in
     let size : c.min-size.result ≡ min n (length bytes - n * k) = c.min-size.ensures ∙ ap (λ t. min n (t - n * k)) (sym whole) in
     let left = left_here part.address n k part.length part.items.now c.loop-k.rest.now there c.loop-k.invariant.rest in
-    let made : seen c.in_ok-piece.field-0 ≡ piece_number part.number part.address part.items.now n bytes k =
+    let made : seen c.in_ok-piece.piece ≡ piece_number part.number part.address part.items.now n bytes k =
     c.in_ok-piece.ensures.value
     ∙ piece_here part.number part.address n k c.min-size.result part.items.now c.loop-k.rest.now bytes before size c.requires.part.ordered left
     c.split_at.result.0.now (c.split_at.ensures.front ∙ ap (λ m. take m c.loop-k.rest.now) c.ending_before.ensures.value) in
     let number : ℕ → Seen = piece_number part.number part.address part.items.now n bytes in
     record {
       made = λ old has. subst (HasPieces c.put.new.self)
-          (one_more number old (old ++ map number (range_with_len 0 k)) _ k (seen c.in_ok-piece.field-0) refl made refl)
-          (c.in_ok-put.ensures.pieces (old ++ map number (range_with_len 0 k)) (c.loop-k.invariant.made old has));
+          (one_more number old (old ++ map number (range_with_len 0 k)) _ k (seen c.in_ok-piece.piece) refl made refl)
+          (c.in_ok-put.ensures.pieces (old ++ map number (range_with_len 0 k)) (let so_far = c.loop-k.invariant.made old has in record { each = so_far.each; written = so_far.written }));
       rest = c.split_at.ensures.back ∙ (ap (λ m. drop m c.loop-k.rest.now) c.ending_before.ensures.value
           ∙ (items_later part.number part.address n k c.min-size.result part.items.now c.loop-k.rest.now bytes before size c.requires.part.ordered left
           ∙ ap (λ t. ending_from (part.address + end_of_pieces n (k + 1) t) part.items.now) whole));

@@ -1,18 +1,19 @@
-use Rattle.std.proofs.Common.{◌++◌, ◌∷◌, [], sym, subst, ◌∙◌}
+use Rattle.std.proofs.Common.{List, Some, ◌++◌, ◌∷◌, [], sym, subst, ◌∙◌}
 use Rattle.std.proofs.lemmas.List.Elements.{All-push}
-use Rattle.std.proofs.lemmas.Result.{on_ok_weaker}
+use Rattle.member_model.specs.Pieces.{Piece as Seen}
 use Rattle.segment_write.specs.Pieces.{seen, IsPiece}
 use Rattle.segment_write.specs.Writing.{GoesOn}
 use Rattle.segment_write.proofs.Writing.{next_held}
 use Rattle.segment_write.proofs.recording.SegmentRecords.put.Goals as goal
 
-pub returns-in-Some-clause-pieces : goal.returns-in-Some-clause-pieces
-returns-in-Some-clause-pieces c =
-    on_ok_weaker c.add.result
-    (λ e before has. record {
+pub returns-in_ok-said-clause-pieces : goal.returns-in_ok-said-clause-pieces
+returns-in_ok-said-clause-pieces c before has =
+    let all : List Seen = before ++ seen c.args.piece ∷ [] in
+    let added : GoesOn c.add.new.self (Some c.args.piece) all =
+    next_held c.args.self.now.records c.add.new.self c.in-Some.before c.args.piece before
+    (subst (λ held. GoesOn c.args.self.now.records held before) (sym c.replace.ensures.value ∙ c.in-Some.is) has.written) c.in_ok-said.ensures.value in
+    record {
       each = All-push IsPiece before (seen c.args.piece) has.each c.requires.piece;
-      written = subst (λ held. GoesOn c.add.new.self held (before ++ seen c.args.piece ∷ [])) (sym c.replace.ensures.after)
-          (next_held c.args.self.now.records c.add.new.self c.in-Some.before c.args.piece before
-          (subst (λ held. GoesOn c.args.self.now.records held before) (sym c.replace.ensures.value ∙ c.in-Some.is) has.written) e);
-    })
-    c.add.ensures.value
+      written = subst (λ records. GoesOn records c.keep.new.self.held all) (sym c.keep.ensures.records)
+          (subst (λ held. GoesOn c.add.new.self held all) (sym (c.keep.ensures.held ∙ c.replace.ensures.after)) added);
+    }
