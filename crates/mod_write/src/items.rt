@@ -30,48 +30,49 @@ pub(crate) fn chains(alloc: Global, list: &PartList<'_>) -> Result<Chains, Alloc
     Chains::new(alloc, program.constants.as_slice(), program.sections.len())
 }
 
-/// The relocation items of a section, by address and at one address in the order of terms.
+/// Fills a list with the relocation items of a section, by address and at one address in the order of
+/// terms. What was in it goes, and its memory serves the next section.
 ///
 /// # Errors
 /// Want of memory.
-pub(crate) fn section_items(
-    alloc: Global,
+pub(crate) fn fill_section_items(
+    items: &mut Vec<RldItem>,
     list: &PartList<'_>,
     a: &Places,
     chains: &Chains,
     section: u32,
-) -> Result<Vec<RldItem>, AllocError>
+) -> Result<(), AllocError>
     requires places { ArePlacesOf list.now a.now }
     requires chained { AreChained list.now.program.constants (length list.now.program.sections) chains.now }
     requires there { section < length list.now.program.sections }
-    ensures { IfOk result (λ items. items.items ≡ section_items list.now section) }
+    ensures { OnOk result (items.new.items ≡ section_items list.now section) }
 {
-    let mut items = gathered(alloc, list, a, chains, section)?;
-    by_address(&mut items)?;
-    Ok(items)
+    gather(items, list, a, chains, section)?;
+    by_address(items)?;
+    Ok(())
 }
 
-/// The relocation items of a section, as its constants stand.
-fn gathered(
-    alloc: Global,
+/// Fills a list with the relocation items of a section, as its constants stand.
+fn gather(
+    items: &mut Vec<RldItem>,
     list: &PartList<'_>,
     a: &Places,
     chains: &Chains,
     section: u32,
-) -> Result<Vec<RldItem>, AllocError>
+) -> Result<(), AllocError>
     requires places { ArePlacesOf list.now a.now }
     requires chained { AreChained list.now.program.constants (length list.now.program.sections) chains.now }
     requires there { section < length list.now.program.sections }
-    ensures { IfOk result (λ items. items.items ≡ terms_in list.now list.now.program.constants section) }
+    ensures { OnOk result (items.new.items ≡ terms_in list.now list.now.program.constants section) }
 {
     let constants = list.program().constants.as_slice();
-    let mut items = Vec::new(alloc);
+    items.clear();
     let mut place = chains.first[section as usize];
     while place < constants.len() {
-        add_terms(&mut items, list, a, &constants[place])?;
+        add_terms(items, list, a, &constants[place])?;
         place = chains.next[place];
     }
-    Ok(items)
+    Ok(())
 }
 
 /// Puts the items of a constant's terms after those that are there.

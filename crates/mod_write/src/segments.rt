@@ -12,7 +12,7 @@ ghost use Rattle.mod_write.specs.Ready.{IsSource};
 ghost use Rattle.mod_write.specs.Written.{segment_bytes, bytes_of_segments};
 
 use crate::chains::Chains;
-use crate::items::{entry_items, section_items};
+use crate::items::{entry_items, fill_section_items};
 use le_bytes::{Bytes, Items, Memory};
 use load_recs::{Ends, RldItem};
 use part_list::{Part, PartList};
@@ -68,8 +68,9 @@ fn segment<K: TextKeeper>(
 {
     let parts = from.list.in_segment(s);
     let mut records = SegmentRecords::new(alloc, parts.len())?;
+    let mut items = Vec::new(alloc);
     for part in parts {
-        add_part(alloc, &mut records, from, *part)?;
+        add_part(alloc, &mut records, from, *part, &mut items)?;
     }
     let ends = Ends {
         segment: true,
@@ -78,12 +79,14 @@ fn segment<K: TextKeeper>(
     records.end(alloc, ends)
 }
 
-/// Puts the pieces of a part after those that are there: none of a common area.
+/// Puts the pieces of a part after those that are there: none of a common area. `items` is a list that
+/// a section's relocation items are gathered in.
 fn add_part<K: TextKeeper>(
     alloc: Global,
     records: &mut SegmentRecords,
     from: &Source<'_, K>,
     part: Part,
+    items: &mut Vec<RldItem>,
 ) -> Result<(), Memory>
     requires source { IsSource from.now.list.now from.now.places.now (K.content from.now.kept.now) from.now.chains.now from.now.piece }
     requires part { IsPartOf from.now.list.now (seen part) }
@@ -93,7 +96,7 @@ fn add_part<K: TextKeeper>(
 {
     match part {
         Part::SegmentTable => add_segment_table(alloc, records, from),
-        Part::Section(section) => add_text(alloc, records, from, section),
+        Part::Section(section) => add_text(alloc, records, from, section, items),
         Part::EntryTable(segment) => add_entry_table(alloc, records, from, segment),
     }
 }
@@ -115,12 +118,14 @@ fn add_segment_table<K: TextKeeper>(
     add_table(alloc, records, from.piece, part, &bytes)
 }
 
-/// Puts the pieces of a section after those that are there: none of a common area.
+/// Puts the pieces of a section after those that are there: none of a common area. Its relocation items
+/// are gathered in `items`.
 fn add_text<K: TextKeeper>(
     alloc: Global,
     records: &mut SegmentRecords,
     from: &Source<'_, K>,
     section: u32,
+    items: &mut Vec<RldItem>,
 ) -> Result<(), Memory>
     requires source { IsSource from.now.list.now from.now.places.now (K.content from.now.kept.now) from.now.chains.now from.now.piece }
     requires there { section < length from.now.list.now.program.sections }
@@ -132,8 +137,8 @@ fn add_text<K: TextKeeper>(
     match from.list.kind_of(part) {
         SecKind::Cm => Ok(()),
         SecKind::Sd | SecKind::Pc => {
-            let items = section_items(alloc, from.list, from.places, from.chains, section)?;
-            let part = placed(from, part, &items);
+            fill_section_items(items, from.list, from.places, from.chains, section)?;
+            let part = placed(from, part, items);
             add_section(alloc, records, from.piece, part, from.kept, section)
         }
     }

@@ -8,15 +8,15 @@ use Rattle.mod_write.proofs.segments.add_text.Goals as goal
 
 pub placed-part-requires-clause-items : goal.placed-part-requires-clause-items
 unfolding part_items
-placed-part-requires-clause-items g c = c.deref.ensures.value ∙ c.in_ok-items-in-Sd.ensures
+placed-part-requires-clause-items g c = c.deref.ensures.value ∙ c.in_ok-fill_section_items-in-Sd.ensures
 
 pub add_section-requires-clause-whole : goal.add_section-requires-clause-whole
 add_section-requires-clause-whole g c =
     let P = c.args.from.now.list.now in
     section_long P (block P 0) (g.K.TextKeeper.content c.args.from.now.kept.now) c.args.section c.requires.source.linked.text c.requires.there ∙ sym c.placed-part.ensures.length
 
-pub returns-in_ok-items-in-Sd : goal.returns-in_ok-items-in-Sd
-returns-in_ok-items-in-Sd g c =
+pub returns-in_ok-fill_section_items-in-Sd : goal.returns-in_ok-fill_section_items-in-Sd
+returns-in_ok-fill_section_items-in-Sd g c =
     let P = c.args.from.now.list.now in
     let i = c.args.section in
     let text = section_text P (block P 0) (g.K.TextKeeper.content c.args.from.now.kept.now) i c.requires.source.linked.text c.requires.there in

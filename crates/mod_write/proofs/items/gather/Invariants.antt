@@ -1,7 +1,7 @@
 use Rattle.std.proofs.Common.{◌≡◌, ◌-◌, ◌++◌, length, drop}
 use Rattle.mod_write.specs.Items.{terms_in}
 use Rattle.mod_write.proofs.Chaining.{BeginsIn}
-use Rattle.mod_write.proofs.items.gathered.Given as goal
+use Rattle.mod_write.proofs.items.gather.Given as goal
 
 abbrev pub invariant-loop-place : goal.invariant-loop-place
 invariant-loop-place l = record {

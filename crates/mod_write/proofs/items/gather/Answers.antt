@@ -3,8 +3,8 @@ use Rattle.sym_mod.specs.declared.program.Constant.{Constant}
 use Rattle.mod_write.specs.Chained.{next_in}
 use Rattle.mod_write.specs.Items.{terms_in}
 use Rattle.mod_write.proofs.Chaining.{BeginsIn, begins_in, skipped, is_own, terms_more, terms_whole, chain_first, firsts_counted, chain_next, goes_on}
-use Rattle.mod_write.proofs.items.gathered.Goals as goal
-use Rattle.mod_write.proofs.items.gathered.Goals.{After-index-place-in-loop-place}
+use Rattle.mod_write.proofs.items.gather.Goals as goal
+use Rattle.mod_write.proofs.items.gather.Goals.{After-index-place-in-loop-place}
 
 all_constants : (c : After-index-place-in-loop-place) → c.as_slice-constants.result.now ≡ c.args.list.now.program.constants
 all_constants c = c.as_slice-constants.ensures ∙ ap (λ p. p.constants) c.program.ensures.program
@@ -38,7 +38,7 @@ loop-place-init c =
     let is : c.index-place.result.now ≡ next_in cs i 0 =
     chain_first cs (length P.program.sections) i c.index-place.result.now c.args.chains.now.first.items c.requires.there c.requires.chained.first c.index-place.ensures in
     record {
-      so_far = ap (λ v. v ++ terms_in P (drop c.index-place.result.now cs) i) c.new-items.ensures.items
+      so_far = ap (λ v. v ++ terms_in P (drop c.index-place.result.now cs) i) c.clear.ensures.items
           ∙ (ap (λ v. terms_in P (drop v cs) i) is ∙ skipped P cs i 0);
       own = subst (λ v. BeginsIn i (drop v cs)) (sym is) (begins_in cs i 0);
     }
