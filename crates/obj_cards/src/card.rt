@@ -48,6 +48,12 @@ impl EsdItem {
     };
 }
 
+impl Default for EsdItem {
+    fn default() -> EsdItem {
+        EsdItem::UNUSED
+    }
+}
+
 /// A card of the external symbol dictionary.
 #[derive(Clone, Copy, Debug, PartialEq, Eq)]
 pub struct EsdCard {
@@ -92,6 +98,12 @@ impl TxtCard {
     };
 }
 
+impl Default for TxtCard {
+    fn default() -> TxtCard {
+        TxtCard::UNUSED
+    }
+}
+
 /// An item of the relocation dictionary: one term of an address constant.
 #[derive(Clone, Copy, Debug, PartialEq, Eq)]
 pub struct CardRld {
@@ -114,6 +126,12 @@ impl CardRld {
         flag: 0,
         address: 0,
     };
+}
+
+impl Default for CardRld {
+    fn default() -> CardRld {
+        CardRld::UNUSED
+    }
 }
 
 /// A card of the relocation dictionary.
