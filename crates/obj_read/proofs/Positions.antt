@@ -120,3 +120,7 @@ pub number_of_longer : (id n : ℕ) (xs : List Numbered) → number_of id (with_
 number_of_longer id n xs =
     ap (λ m. cond (nat_lt m (length (with_length n xs))) (Some m) None) (place_of_longer id n xs)
     ∙ ap (λ l. cond (nat_lt (position_or_len (has_esdid id) xs) l) (Some (position_or_len (has_esdid id) xs)) None) (length_of_longer n xs)
+
+-- a list written anew from its first item on is what was written
+pub refilled : {X : Type 0} (n : ℕ) (new old : List X) → n ≡ length new → take n (new ++ drop (length new) old) ≡ new
+refilled n new old size = grind (arith, common_steps, size)

@@ -134,7 +134,7 @@ fn many_constants(
     ensures { IfOk result (λ made. made ≡ constants items.now terms.now) }
 {
     let mut gathered = Gathered {
-        constants: Vec::new(alloc),
+        constants: Vec::with_capacity(alloc, terms.len())?,
         numbers: HashMap::new(alloc),
     };
     for k in 0..terms.len() {

@@ -11,14 +11,15 @@ use crate::few::FEW;
 use crate::kinds::{has_text, is_label};
 use crate::numbered::Numbered;
 use obj_cards::{EsdItem, EsdKind};
+use smallvec::SmallVec;
 use std::alloc::{AllocError, Global};
 use std::collections::HashMap;
 use std::marker::Model;
 
-/// The items in order. Contracts see the list.
+/// The items in order, of which up to four take no memory of their own. Contracts see the list.
 #[derive(Drop)]
 pub struct Dictionary {
-    items: Vec<Numbered>,
+    items: SmallVec<Numbered, 4>,
     /// The place in `items` of the first item, no label, with an ESDID. There is no map while the
     /// items are few.
     places: Option<HashMap<u32, usize>>,
@@ -49,7 +50,7 @@ impl Dictionary {
         ensures { result ≡ [] }
     {
         Dictionary {
-            items: Vec::new(alloc),
+            items: SmallVec::new(alloc),
             places: None,
         }
     }

@@ -3,15 +3,14 @@ ghost use Rattle.std.specs.Prelude.{◌≡◌, []};
 
 use crate::dictionary::Dictionary;
 use crate::terms::Terms;
-use le_bytes::Items;
-use obj_cards::TxtCard;
+use crate::texts::Texts;
 use std::alloc::Global;
 
 /// The items, the text and the terms of constants of the cards that were read, in their order.
 #[derive(Drop)]
 pub struct Facts {
     pub items: Dictionary,
-    pub texts: Items<TxtCard>,
+    pub texts: Texts,
     pub terms: Terms,
 }
 
@@ -22,7 +21,7 @@ impl Facts {
     {
         Facts {
             items: Dictionary::new(alloc),
-            texts: Items::new(alloc),
+            texts: Texts::new(alloc),
             terms: Terms::new(alloc),
         }
     }

@@ -15,6 +15,7 @@ mod kinds;
 mod numbered;
 mod reading;
 mod terms;
+mod texts;
 
 pub use fault::ObjFault;
 pub use numbered::Numbered;

@@ -8,6 +8,7 @@ ghost use Rattle.obj_read.specs.Flags.{length_of_flag};
 use crate::few::FEW;
 use crate::flags::length_of;
 use obj_cards::CardRld;
+use smallvec::SmallVec;
 use std::alloc::{AllocError, Global};
 use std::collections::HashMap;
 use std::marker::Model;
@@ -19,10 +20,10 @@ pub struct BytePlace {
     pub byte: u64,
 }
 
-/// The terms in order. Contracts see the list.
+/// The terms in order, of which up to four take no memory of their own. Contracts see the list.
 #[derive(Drop)]
 pub struct Terms {
-    terms: Vec<CardRld>,
+    terms: SmallVec<CardRld, 4>,
     /// The first term whose field a byte stands in. There is no map while the terms are few.
     covered: Option<HashMap<BytePlace, CardRld>>,
 }
@@ -45,7 +46,7 @@ impl Terms {
         ensures { result ≡ [] }
     {
         Terms {
-            terms: Vec::new(alloc),
+            terms: SmallVec::new(alloc),
             covered: None,
         }
     }

@@ -8,4 +8,4 @@ pub invariant_of-self-in_ok-with_field-2 : goal.invariant_of-self-in_ok-with_fie
 invariant_of-self-in_ok-with_field-2 c = λ s b.
     covered_more c.self.inside.terms.items c.args.term c.in-Some.covered c.in_ok-with_field.field-0 c.in_ok-with_field.ensures
     c.self.inside.covered (sym c.take-covered.ensures.value ∙ c.in-Some.is) c.self.invariant s b
-    ∙ ap (λ ts. find (covers s b) ts) (sym c.in_ok-push.ensures.items)
+    ∙ ap (λ ts. find (covers s b) ts) (sym c.in_ok-push.ensures.ok)
