@@ -1,10 +1,11 @@
 //! What the modules that were read say of each symbol.
-ghost use Rattle.std.specs.Prelude.{◌≡◌, ◌&&◌, ◌||◌, not, [], ◌∷◌, is_some, option_map, OnOk, IfOk};
+ghost use Rattle.std.specs.Prelude.{◌≡◌, ◌&&◌, ◌||◌, not, [], ◌∷◌, Some, is_some, option_map, OnOk, IfOk};
 ghost use Rattle.std.specs.List.{list_any};
 ghost use Rattle.sym_mod.specs.Kinds.{is_sd, kind_of};
-ghost use Rattle.linking_model.specs.Kept.{symbol_eq, ByName, name_in};
+ghost use Rattle.linking_model.specs.Kept.{symbol_eq};
 ghost use Rattle.esd_index.specs.Keys.{as_symbol, sight};
 ghost use Rattle.esd_index.specs.Contents.{now_of, marked_of};
+ghost use Rattle.esd_index.specs.Marked.{with_some};
 ghost use Rattle.esd_index.specs.Steps.{with_sight, label_meant, with_seen, with_target, clashes_over, is_kept_over};
 
 use crate::key::{Key, Sighted};
@@ -86,7 +87,9 @@ impl Index {
             self.found.push(0)?;
             return Ok(false);
         };
-        let place = self.table.put(key, 0)?;
+        // A deck often names again what the deck before named last.
+        let likely = self.table.symbols().len().saturating_sub(1);
+        let place = self.table.put(key, likely)?;
         self.found.push(place)?;
         match x.item.kind_kept() {
             ItemKind::Sd => self.table.put_control(key, place),
@@ -143,33 +146,24 @@ impl Index {
         ensures noted { OnOk result (now_of self.new ≡ with_target items.now (now_of self.old) t.now) }
         ensures marked { marked_of self.new ≡ marked_of self.old }
     {
-        let name = target_name(t.target);
-        self.table.note(name)?;
-        self.named.note(name)?;
-        self.labelled.note(label_meant(items, t.target))
+        match t.target {
+            SymTarget::Named(name) => self.note_named(Key::Named(name)),
+            SymTarget::Own(n) => self.labelled.note(label_name(items, n as usize)),
+            _ => Ok(()),
+        }
+    }
+
+    /// Notes a name to which a constant refers by the name.
+    fn note_named(&mut self, name: Key) -> Result<(), AllocError>
+        ensures noted { OnOk result (now_of self.new ≡ record (now_of self.old) { symbols = with_some (now_of self.old).symbols (Some (as_symbol name)); named = with_some (now_of self.old).named (Some (as_symbol name)) }) }
+        ensures marked { marked_of self.new ≡ marked_of self.old }
+    {
+        self.table.note(Some(name))?;
+        self.named.note(Some(name))
     }
 }
 
-/// The name by which a target refers.
-fn target_name(target: SymTarget) -> Option<Key>
-    ensures { option_map as_symbol result ≡ option_map ByName (name_in target) }
-{
-    match target {
-        SymTarget::Named(name) => Some(Key::Named(name)),
-        _ => None,
-    }
-}
-
-/// The name of the label item to which a target refers.
-fn label_meant(items: &[Item], target: SymTarget) -> Option<Key>
-    ensures { option_map as_symbol result ≡ label_meant items.now target }
-{
-    match target {
-        SymTarget::Own(n) => label_name(items, n as usize),
-        _ => None,
-    }
-}
-
+/// The name of the label item of a number.
 fn label_name(items: &[Item], n: usize) -> Option<Key>
     ensures { option_map as_symbol result ≡ label_meant items.now (SymTarget.Own n) }
 {
