@@ -8,3 +8,4 @@ pub mod Parts
 pub mod Sorted
 pub mod Steps
 pub mod Tables
+pub mod Written

@@ -7,14 +7,37 @@ ghost use Rattle.esd_index.specs.Parts.{stands_at};
 ghost use Rattle.esd_index.specs.Steps.{named_if, is_kept_section_by, is_kept_label_by, kept_label_by, flag_at};
 
 use le_bytes::Name;
+use std::hash::{Hash, Hasher};
 use sym_mod::{Item, ItemKind};
 
 /// What may be referred to: a name, or a private section, by its module and its number there, both
 /// from 0.
-#[derive(Clone, Copy, Debug, PartialEq, Eq, Hash)]
+#[derive(Clone, Copy, Debug, PartialEq, Eq)]
 pub enum Key {
     Named(Name),
     Private(usize, usize),
+}
+
+/// A name is written at once, with nothing of its kind before it: a name is looked up far more often
+/// than a private section, and each write costs.
+impl Hash for Key {
+    ghost use Rattle.std.proofs.Common.{rules};
+    ghost use Rattle.std.specs.Cmp.Rules.{hashing};
+    ghost use Rattle.esd_index.specs.Written.{written};
+
+    ghost hash_input = { written };
+
+    ghost respects_eq = { Prim.search (hashing, rules) };
+
+    fn hash<H: Hasher>(&self, state: &mut H) {
+        match self {
+            Key::Named(name) => state.write(&name.0),
+            Key::Private(of_module, number) => {
+                state.write_usize(*of_module);
+                state.write_usize(*number);
+            }
+        }
+    }
 }
 
 /// An item where it is seen.
