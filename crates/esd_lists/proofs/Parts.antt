@@ -16,11 +16,12 @@ use Rattle.esd_index.specs.Contents.{Contents}
 use Rattle.esd_index.specs.Steps.{flag_at, named_if}
 use Rattle.esd_lists.specs.declared.by_name.Area.{Area}
 use Rattle.esd_lists.specs.declared.by_name.Extent.{Extent}
+use Rattle.esd_lists.specs.declared.by_name.First.{First}
 use Rattle.esd_lists.specs.declared.reading.Reading.{Reading}
 use Rattle.esd_lists.specs.Indexed.{content_of, Holds}
 use Rattle.esd_lists.specs.Held.{as_read, AreMarked, is_marked_in}
 use Rattle.esd_lists.specs.Looked.{rank_by, seen_by, home_by}
-use Rattle.esd_lists.specs.Gathered.{no_area, extent_in, label_by, label_step, area_step, extent_step}
+use Rattle.esd_lists.specs.Gathered.{first_of, no_area, extent_in, label_by, label_step, area_step, extent_step}
 use Rattle.esd_lists.specs.Listed.{pushed, at_name, named_by, private_by, section_by, register_by}
 use Rattle.esd_lists.proofs.Sights.{sight_at_is}
 use Rattle.esd_lists.proofs.Sections.{kept_as_section}
@@ -165,7 +166,7 @@ rank_is : (rs : List Read) (c : Contents) (y : Symbol) → c ≡ content_of rs �
 rank_is rs c y e = ap (λ (ys : List Symbol). unwrap_or (position (symbol_eq y) ys) 0) (symbols_is rs c e)
 
 named_is : (rs : List Read) (c : Contents) (y : Name) (o : Option Sight) → c ≡ content_of rs
-    → named_by c y o (record { users = map (λ x. x.segment) (areas rs y); length = greatest_length (areas rs y) }) ≡ named_section rs y o
+    → named_by c y (option_map first_of o) (record { users = map (λ x. x.segment) (areas rs y); length = greatest_length (areas rs y) }) ≡ named_section rs y o
 unfolding named_by
 named_is rs c y None e = rw (rank_is rs c (ByName y) e) refl
 named_is rs c y (Some first) e =
@@ -178,8 +179,8 @@ unfolding private_by
 private_is rs c y None e = refl
 private_is rs c y (Some x) e = rw (rank_is rs c y e) refl
 
-section_is : (c : Contents) (xs : List Reading) (controls : Name → Option Sight) (areas_at : Name → Area) → Holds c xs
-    → ((y : Name) → controls y ≡ kept_sd (map as_read xs) y) → ((y : Name) → areas_at y ≡ fold (area_step y) no_area (sights (map as_read xs)))
+section_is : (c : Contents) (xs : List Reading) (controls : Name → Option First) (areas_at : Name → Area) → Holds c xs
+    → ((y : Name) → controls y ≡ option_map first_of (kept_sd (map as_read xs) y)) → ((y : Name) → areas_at y ≡ fold (area_step y) no_area (sights (map as_read xs)))
     → (y : Symbol) → section_by c xs controls areas_at y ≡ section_of (map as_read xs) y
 section_is c xs controls areas_at h first gathered (ByName y) =
     let rs : List Read = map as_read xs in
@@ -188,8 +189,8 @@ section_is c xs controls areas_at h first gathered (ByName y) =
 section_is c xs controls areas_at h first gathered (Private k i) =
     ap (option_map (private_by c (Private k i))) (seen_is xs k i) ∙ private_is (map as_read xs) c (Private k i) (sight_at (map as_read xs) k i) h.indexed
 
-pub sections_are : (c : Contents) (xs : List Reading) (controls : Name → Option Sight) (areas_at : Name → Area) → Holds c xs
-    → ((y : Name) → controls y ≡ kept_sd (map as_read xs) y) → ((y : Name) → areas_at y ≡ fold (area_step y) no_area (sights (map as_read xs)))
+pub sections_are : (c : Contents) (xs : List Reading) (controls : Name → Option First) (areas_at : Name → Area) → Holds c xs
+    → ((y : Name) → controls y ≡ option_map first_of (kept_sd (map as_read xs) y)) → ((y : Name) → areas_at y ≡ fold (area_step y) no_area (sights (map as_read xs)))
     → fold (λ xs_ y. pushed xs_ (section_by c xs controls areas_at y)) [] c.sections ≡ sections (map as_read xs)
 sections_are c xs controls areas_at h first gathered =
     listed (section_by c xs controls areas_at) (section_of (map as_read xs)) (section_is c xs controls areas_at h first gathered) c.sections

@@ -11,6 +11,7 @@ use Rattle.esd_index.specs.Contents.{Contents}
 use Rattle.esd_index.specs.Parts.{stands_at}
 use Rattle.esd_lists.specs.declared.by_name.Area.{Area}
 use Rattle.esd_lists.specs.declared.by_name.Extent.{Extent}
+use Rattle.esd_lists.specs.declared.by_name.First.{First}
 use Rattle.esd_lists.specs.declared.reading.Reading.{Reading}
 use Rattle.esd_lists.specs.Looked.{rank_by, seen_by, home_by}
 
@@ -41,8 +42,12 @@ label_by c xs x =
     (λ i. record { name = x.item.name; rank = rank_by c (ByName x.item.name); section = i; offset = x.item.base - base_of (seen_by xs x.of_module x.item.owner) })
     (home_by c xs x.of_module x.item.owner)
 
--- the first SD item of a name, by the place of the name among the names of SD items
-abbrev pub control_at : List Symbol → List Sight → Name → Option Sight
+-- what the first SD item of a name brings
+abbrev pub first_of : Sight → First
+first_of x = record { segment = x.segment; length = x.item.length }
+
+-- what the first SD item of a name brings, by the place of the name among the names of SD items
+abbrev pub control_at : List Symbol → List First → Name → Option First
 control_at names xs y = option_and_then (λ k. slice_get xs k) (position (symbol_eq (ByName y)) names)
 
 -- ---- one item more
@@ -51,9 +56,9 @@ control_at names xs y = option_and_then (λ k. slice_get xs k) (position (symbol
 unfoldable pub label_step : Contents → List Reading → Name → Option Label → Sight → Option Label
 label_step c xs y o x = option_or o (if is_label_named y x then label_by c xs x else None)
 
--- the list of first SD items, and x at its end where its name stands next among the names of SD items
-unfoldable pub control_listed : List Symbol → List Sight → Sight → List Sight
-control_listed names xs x = if is_sd (kind_of x.item) && stands_at names (length xs) (ByName x.item.name) then xs ++ x ∷ [] else xs
+-- what first SD items bring, and what x brings at the end where its name stands next among the names of SD items
+unfoldable pub control_listed : List Symbol → List First → Sight → List First
+control_listed names xs x = if is_sd (kind_of x.item) && stands_at names (length xs) (ByName x.item.name) then xs ++ first_of x ∷ [] else xs
 
 -- the CM items of a name
 unfoldable pub area_step : Name → Area → Sight → Area

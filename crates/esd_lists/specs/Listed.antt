@@ -11,6 +11,7 @@ use Rattle.linking_model.specs.Kept.{Sight, Symbol, ByName, Private, symbol_eq}
 use Rattle.esd_index.specs.Contents.{Contents}
 use Rattle.esd_lists.specs.declared.by_name.Area.{Area}
 use Rattle.esd_lists.specs.declared.by_name.Extent.{Extent}
+use Rattle.esd_lists.specs.declared.by_name.First.{First}
 use Rattle.esd_lists.specs.declared.reading.Reading.{Reading}
 use Rattle.esd_lists.specs.Looked.{rank_by, seen_by}
 
@@ -27,10 +28,10 @@ at_name f (Private _ _) = None
 -- ---- sections and registers
 
 -- the section of a name: the area alone, or the SD that is kept with the area
-unfoldable pub named_by : Contents → Name → Option Sight → Area → Section
+unfoldable pub named_by : Contents → Name → Option First → Area → Section
 named_by c y None a = record { name = y; kind = CmSection; rank = rank_by c (ByName y); segment = 0; users = a.users; length = a.length }
 named_by c y (Some first) a =
-    record { name = y; kind = SdSection; rank = rank_by c (ByName y); segment = first.segment; users = a.users; length = max first.item.length a.length }
+    record { name = y; kind = SdSection; rank = rank_by c (ByName y); segment = first.segment; users = a.users; length = max first.length a.length }
 
 -- the section of a PC item
 unfoldable pub private_by : Contents → Symbol → Sight → Section
@@ -44,7 +45,7 @@ private_by c y x = record {
 }
 
 -- the section of a symbol
-abbrev pub section_by : Contents → List Reading → (Name → Option Sight) → (Name → Area) → Symbol → Option Section
+abbrev pub section_by : Contents → List Reading → (Name → Option First) → (Name → Area) → Symbol → Option Section
 section_by c xs controls areas (ByName y) = Some (named_by c y (controls y) (areas y))
 section_by c xs controls areas (Private k i) = option_map (private_by c (Private k i)) (seen_by xs k i)
 

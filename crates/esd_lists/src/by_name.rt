@@ -3,11 +3,30 @@ ghost use Rattle.std.specs.Prelude.{◌≡◌, false, OnOk};
 ghost use Rattle.std.specs.HashMap.{get};
 ghost use Rattle.le_bytes.specs.Names.{name_eq};
 ghost use Rattle.esd_lists.specs.declared.by_name.Area.{Area};
-ghost use Rattle.esd_lists.specs.Gathered.{put_in, area_in, no_area};
+ghost use Rattle.esd_index.specs.Keys.{sight};
+ghost use Rattle.esd_lists.specs.Gathered.{first_of, put_in, area_in, no_area};
 
+use esd_index::Sighted;
 use le_bytes::{Items, Name};
 use std::alloc::{AllocError, Global};
 use std::collections::HashMap;
+
+/// What the first SD item of a name brings: the segment in which it came, and its length in bytes.
+#[derive(Clone, Copy)]
+pub(crate) struct First {
+    pub(crate) segment: u8,
+    pub(crate) length: u32,
+}
+
+/// What an SD item brings that is the first of its name.
+pub(crate) fn first_of(x: &Sighted) -> First
+    ensures { result ≡ first_of (sight x.now) }
+{
+    First {
+        segment: x.segment,
+        length: x.item.length,
+    }
+}
 
 /// What the CM items of one name bring: the segments in which they came, and the greatest length.
 #[derive(Drop)]

@@ -1,5 +1,5 @@
 //! What the items of the modules that were read bring, by name.
-ghost use Rattle.std.specs.Prelude.{◌≡◌, [], map, fold, option_map, None, IfOk, OnOk};
+ghost use Rattle.std.specs.Prelude.{◌≡◌, [], fold, option_map, None, IfOk, OnOk};
 ghost use Rattle.std.specs.HashMap.{get};
 ghost use Rattle.le_bytes.specs.declared.name.Name.{Name};
 ghost use Rattle.le_bytes.specs.Names.{name_eq};
@@ -10,7 +10,7 @@ ghost use Rattle.esd_lists.specs.Looked.{IsNumbered};
 ghost use Rattle.esd_lists.specs.Gathered.{base_of, area_in, no_area, extent_in, label_by, label_step, control_listed, area_step, extent_step};
 ghost use Rattle.esd_lists.specs.Walked.{gathered_from};
 
-use crate::by_name::{Area, Extent, put, take_area};
+use crate::by_name::{Area, Extent, First, first_of, put, take_area};
 use crate::lookups::{home, rank, seen};
 use crate::reading::Reading;
 use esd_index::{Index, Key, Sighted, stands_at};
@@ -98,8 +98,8 @@ fn note_label(
 // ---- sections
 
 #[tactic(auto, unfolding(crate::specs::Gathered::control_listed))]
-fn note_control(controls: &mut Vec<Sighted>, index: &Index, x: &Sighted) -> Result<(), AllocError>
-    ensures { OnOk result (map sight controls.new.items ≡ control_listed (now_of index.now).controls (map sight controls.old.items) (sight x.now)) }
+fn note_control(controls: &mut Vec<First>, index: &Index, x: &Sighted) -> Result<(), AllocError>
+    ensures { OnOk result (controls.new.items ≡ control_listed (now_of index.now).controls controls.old.items (sight x.now)) }
 {
     if !is_control(x) {
         return Ok(());
@@ -111,7 +111,7 @@ fn note_control(controls: &mut Vec<Sighted>, index: &Index, x: &Sighted) -> Resu
     ) {
         return Ok(());
     }
-    controls.push(*x)?;
+    controls.push(first_of(x))?;
     Ok(())
 }
 
@@ -164,8 +164,8 @@ fn note_extent(extents: &mut HashMap<Name, Extent>, x: &Sighted) -> Result<(), A
 /// What the items bring, by name.
 #[derive(Drop)]
 pub(crate) struct Gathered {
-    /// The first SD item of each name, in the order of their names in the index.
-    pub(crate) controls: Vec<Sighted>,
+    /// What the first SD item of each name brings, in the order of their names in the index.
+    pub(crate) controls: Vec<First>,
     /// The CM items of each name, as one area.
     pub(crate) areas: HashMap<Name, Area>,
     /// The first kept label of each name.
@@ -177,7 +177,7 @@ pub(crate) struct Gathered {
 }
 
 impl Gathered {
-    ghost use Rattle.std.specs.Prelude.{◌≡◌, map, fold, OnOk};
+    ghost use Rattle.std.specs.Prelude.{◌≡◌, fold, OnOk};
     ghost use Rattle.std.specs.HashMap.{get};
     ghost use Rattle.le_bytes.specs.declared.name.Name.{Name};
     ghost use Rattle.le_bytes.specs.Names.{name_eq};
@@ -195,7 +195,7 @@ impl Gathered {
         x: &Sighted,
     ) -> Result<(), AllocError>
         requires { IsNumbered (now_of index.now) }
-        ensures controls { OnOk result (map sight self.new.controls.items ≡ control_listed (now_of index.now).controls (map sight self.old.controls.items) (sight x.now)) }
+        ensures controls { OnOk result (self.new.controls.items ≡ control_listed (now_of index.now).controls self.old.controls.items (sight x.now)) }
         ensures areas { OnOk result ((y : Name) → area_in (get name_eq self.new.areas y) ≡ area_step y (area_in (get name_eq self.old.areas y)) (sight x.now)) }
         ensures labels { OnOk result ((y : Name) → get name_eq self.new.labels y ≡ label_step (now_of index.now) reads.now y (get name_eq self.old.labels y) (sight x.now)) }
         ensures extents { OnOk result ((y : Name) → extent_in (get name_eq self.new.extents y) ≡ extent_step y (extent_in (get name_eq self.old.extents y)) (sight x.now)) }
@@ -216,7 +216,7 @@ impl Gathered {
         items: &[Item],
     ) -> Result<(), AllocError>
         requires { IsNumbered (now_of index.now) }
-        ensures controls { OnOk result (map sight self.new.controls.items ≡ fold (control_listed (now_of index.now).controls) (map sight self.old.controls.items) (sights_in of_module segment 0 items.now)) }
+        ensures controls { OnOk result (self.new.controls.items ≡ fold (control_listed (now_of index.now).controls) self.old.controls.items (sights_in of_module segment 0 items.now)) }
         ensures areas { OnOk result ((y : Name) → area_in (get name_eq self.new.areas y) ≡ fold (area_step y) (area_in (get name_eq self.old.areas y)) (sights_in of_module segment 0 items.now)) }
         ensures labels { OnOk result ((y : Name) → get name_eq self.new.labels y ≡ fold (label_step (now_of index.now) reads.now y) (get name_eq self.old.labels y) (sights_in of_module segment 0 items.now)) }
         ensures extents { OnOk result ((y : Name) → extent_in (get name_eq self.new.extents y) ≡ fold (extent_step y) (extent_in (get name_eq self.old.extents y)) (sights_in of_module segment 0 items.now)) }
@@ -241,7 +241,7 @@ pub(crate) fn gather(
     reads: &[Reading],
 ) -> Result<Gathered, AllocError>
     requires { IsNumbered (now_of index.now) }
-    ensures controls { IfOk result (λ g. map sight g.controls.items ≡ gathered_from (control_listed (now_of index.now).controls) [] 0 reads.now) }
+    ensures controls { IfOk result (λ g. g.controls.items ≡ gathered_from (control_listed (now_of index.now).controls) [] 0 reads.now) }
     ensures areas { IfOk result (λ g. (y : Name) → area_in (get name_eq g.areas y) ≡ gathered_from (area_step y) no_area 0 reads.now) }
     ensures labels { IfOk result (λ g. (y : Name) → get name_eq g.labels y ≡ gathered_from (label_step (now_of index.now) reads.now y) None 0 reads.now) }
     ensures extents { IfOk result (λ g. (y : Name) → extent_in (get name_eq g.extents y) ≡ gathered_from (extent_step y) (extent_in None) 0 reads.now) }

@@ -1,5 +1,5 @@
 //! The sections, labels, registers and unresolved names of a program.
-ghost use Rattle.std.specs.Prelude.{◌≡◌, false, [], Some, map, fold, slice_get, option_map, IfOk, OnOk};
+ghost use Rattle.std.specs.Prelude.{◌≡◌, false, [], Some, fold, slice_get, option_map, IfOk, OnOk};
 ghost use Rattle.std.specs.HashMap.{get};
 ghost use Rattle.le_bytes.specs.Names.{name_eq};
 ghost use Rattle.linking_model.specs.Kept.{ByName};
@@ -9,7 +9,7 @@ ghost use Rattle.esd_lists.specs.Looked.{IsNumbered, seen_by};
 ghost use Rattle.esd_lists.specs.Gathered.{control_at, area_in, extent_in};
 ghost use Rattle.esd_lists.specs.Listed.{pushed, at_name, named_by, private_by, section_by, register_by, has, is_referenced_by, is_weak_by, unknown_by};
 
-use crate::by_name::{Area, Extent};
+use crate::by_name::{Area, Extent, First};
 use crate::gathering::extent_at;
 use crate::lookups::{control_place, is_section, rank, seen};
 use crate::reading::Reading;
@@ -58,10 +58,10 @@ fn area_at(alloc: Global, areas: &HashMap<Name, Area>, name: &Name) -> Result<Ar
     }
 }
 
-/// The first SD item of a name, where the first SD items are listed in the order of their names.
-fn control_at(index: &Index, controls: &[Sighted], next: &mut usize, name: Name) -> Option<Sighted>
+/// What the first SD item of a name brings, where the first are listed in the order of their names.
+fn control_at(index: &Index, controls: &[First], next: &mut usize, name: Name) -> Option<First>
     requires { IsNumbered (now_of index.now) }
-    ensures { option_map sight result ≡ control_at (now_of index.now).controls (map sight controls.now) name }
+    ensures { result ≡ control_at (now_of index.now).controls controls.now name }
 {
     let place = control_place(index, *next, &Key::Named(name))?;
     *next = place.saturating_add(1);
@@ -81,23 +81,23 @@ fn named_section(
     alloc: Global,
     index: &Index,
     name: Name,
-    controls: &[Sighted],
+    controls: &[First],
     areas: &HashMap<Name, Area>,
     likely: &mut Likely,
 ) -> Result<Section, AllocError>
     requires { IsNumbered (now_of index.now) }
-    ensures { IfOk result (λ section. section ≡ named_by (now_of index.now) name (control_at (now_of index.now).controls (map sight controls.now) name) (area_in (get name_eq areas.now name))) }
+    ensures { IfOk result (λ section. section ≡ named_by (now_of index.now) name (control_at (now_of index.now).controls controls.now name) (area_in (get name_eq areas.now name))) }
 {
     let rank = rank(index, &mut likely.symbol, &Key::Named(name));
     let Area { users, length } = area_at(alloc, areas, &name)?;
     match control_at(index, controls, &mut likely.control, name) {
-        Some(x) => Ok(Section {
+        Some(first) => Ok(Section {
             name,
             kind: SecKind::Sd,
             rank,
-            segment: x.segment,
+            segment: first.segment,
             users,
-            length: x.item.length.max(length),
+            length: first.length.max(length),
         }),
         None => Ok(Section {
             name,
@@ -151,13 +151,13 @@ fn section(
     alloc: Global,
     index: &Index,
     reads: &[Reading],
-    controls: &[Sighted],
+    controls: &[First],
     areas: &HashMap<Name, Area>,
     key: &Key,
     likely: &mut Likely,
 ) -> Result<Option<Section>, AllocError>
     requires { IsNumbered (now_of index.now) }
-    ensures { IfOk result (λ section. section ≡ section_by (now_of index.now) reads.now (control_at (now_of index.now).controls (map sight controls.now)) (λ y. area_in (get name_eq areas.now y)) (as_symbol key.now)) }
+    ensures { IfOk result (λ section. section ≡ section_by (now_of index.now) reads.now (control_at (now_of index.now).controls controls.now) (λ y. area_in (get name_eq areas.now y)) (as_symbol key.now)) }
 {
     match key {
         Key::Named(name) => {
@@ -176,11 +176,11 @@ pub(crate) fn sections(
     alloc: Global,
     index: &Index,
     reads: &[Reading],
-    controls: &[Sighted],
+    controls: &[First],
     areas: &HashMap<Name, Area>,
 ) -> Result<Items<Section>, AllocError>
     requires { IsNumbered (now_of index.now) }
-    ensures { IfOk result (λ list. list ≡ fold (λ xs y. pushed xs (section_by (now_of index.now) reads.now (control_at (now_of index.now).controls (map sight controls.now)) (λ y. area_in (get name_eq areas.now y)) y)) [] (now_of index.now).sections) }
+    ensures { IfOk result (λ list. list ≡ fold (λ xs y. pushed xs (section_by (now_of index.now) reads.now (control_at (now_of index.now).controls controls.now) (λ y. area_in (get name_eq areas.now y)) y)) [] (now_of index.now).sections) }
 {
     let mut list = Items::from_vec(Vec::with_capacity(alloc, index.table.sections().len())?);
     let mut likely = Likely {
@@ -216,7 +216,7 @@ pub(crate) fn labels(
 ) -> Result<Items<Label>, AllocError>
     ensures { IfOk result (λ list. list ≡ fold (λ xs y. pushed xs (at_name (get name_eq labels.now) y)) [] (now_of index.now).symbols) }
 {
-    let mut list = Items::new(alloc);
+    let mut list = Items::from_vec(Vec::with_capacity(alloc, labels.len())?);
     for key in index.table.symbols().keys() {
         push_some(&mut list, label_of(labels, key))?;
     }
@@ -247,7 +247,7 @@ pub(crate) fn registers(
 ) -> Result<Items<Register>, AllocError>
     ensures { IfOk result (λ list. list ≡ fold (λ xs y. pushed xs (at_name (λ y. Some (register_by y (extent_in (get name_eq extents.now y)))) y)) [] (now_of index.now).registers) }
 {
-    let mut list = Items::new(alloc);
+    let mut list = Items::from_vec(Vec::with_capacity(alloc, index.registers.len())?);
     for key in index.registers.keys() {
         push_some(&mut list, register_of(extents, key))?;
     }

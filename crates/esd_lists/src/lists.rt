@@ -4,7 +4,6 @@ ghost use Rattle.std.specs.HashMap.{get};
 ghost use Rattle.le_bytes.specs.declared.name.Name.{Name};
 ghost use Rattle.le_bytes.specs.Names.{name_eq};
 ghost use Rattle.linking_model.specs.Merged.{sections, labels, unresolved, registers};
-ghost use Rattle.esd_index.specs.Keys.{sight};
 ghost use Rattle.esd_index.specs.Contents.{now_of};
 ghost use Rattle.esd_lists.specs.Held.{as_read};
 ghost use Rattle.esd_lists.specs.Indexed.{Holds};
@@ -27,7 +26,7 @@ fn program_sections(
     gathered: &Gathered,
 ) -> Result<Items<Section>, AllocError>
     requires holds { Holds (now_of index.now) reads.now }
-    requires controls { map sight gathered.now.controls.items ≡ gathered_from (control_listed (now_of index.now).controls) [] 0 reads.now }
+    requires controls { gathered.now.controls.items ≡ gathered_from (control_listed (now_of index.now).controls) [] 0 reads.now }
     requires areas { (y : Name) → area_in (get name_eq gathered.now.areas y) ≡ gathered_from (area_step y) no_area 0 reads.now }
     ensures { IfOk result (λ list. list ≡ sections (map as_read reads.now)) }
 {

@@ -1,7 +1,5 @@
-use Rattle.std.proofs.Common.{map}
 use Rattle.std.specs.HashMap.{get}
 use Rattle.le_bytes.specs.Names.{name_eq}
-use Rattle.esd_index.specs.Keys.{sight}
 use Rattle.esd_index.specs.Contents.{now_of}
 use Rattle.esd_lists.specs.Gathered.{area_in, extent_in, label_step, control_listed, area_step, extent_step}
 use Rattle.esd_lists.proofs.Walking.{next_walked}
@@ -9,7 +7,7 @@ use Rattle.esd_lists.proofs.gathering.gather.Goals as goal
 
 pub loop-number-preserved : goal.loop-number-preserved
 loop-number-preserved c = (
-  next_walked (control_listed (now_of c.args.index.now).controls) c.loop-number.number c.args.reads.now c.index-reads-number.result c.as_slice-items.result.now (map sight c.loop-number.gathered.controls.items) _ _
+  next_walked (control_listed (now_of c.args.index.now).controls) c.loop-number.number c.args.reads.now c.index-reads-number.result c.as_slice-items.result.now c.loop-number.gathered.controls.items _ _
       c.loop-number-test.true c.index-reads-number.is c.as_slice-items.ensures c.in_ok-note_items.ensures.controls c.loop-number.invariant.0,
   λ y. next_walked (area_step y) c.loop-number.number c.args.reads.now c.index-reads-number.result c.as_slice-items.result.now (area_in (get name_eq c.loop-number.gathered.areas y)) _ _
       c.loop-number-test.true c.index-reads-number.is c.as_slice-items.ensures (c.in_ok-note_items.ensures.areas y) (c.loop-number.invariant.1 y),
