@@ -1,6 +1,5 @@
 -- A module in an index.
-use Rattle.std.specs.Prelude.{◌≡◌, ℕ, Bool, List, filter, fold, Result, Ok, Err, ⊤, Vec}
-use Rattle.std.specs.declared.alloc.Global.{Global}
+use Rattle.std.specs.Prelude.{◌≡◌, ℕ, Bool, List, filter, fold, Result, Ok, Err, ⊤}
 use Rattle.le_bytes.specs.declared.name.Name.{Name}
 use Rattle.sym_mod.specs.declared.module.SymConst.{SymConst}
 use Rattle.sym_mod.specs.declared.module.SymModule.{SymModule}
@@ -25,7 +24,7 @@ noted_module n segment m c =
     with_constants (Err name) = Err name
 
 -- the answer is what is wanted, with the marks of the items, unless memory ran out
-abbrev pub NotesModule : SymModule → Contents → Result Contents Name → Result (Vec Bool Global) Stop → Contents → Type 0
-NotesModule m old wanted (Ok kept) new = (wanted ≡ Ok new) × (kept.items ≡ kept_flags old.controls m.items)
+abbrev pub NotesModule : SymModule → Contents → Result Contents Name → Result (List Bool) Stop → Contents → Type 0
+NotesModule m old wanted (Ok kept) new = (wanted ≡ Ok new) × (kept ≡ kept_flags old.controls m.items)
 NotesModule m old wanted (Err (Clash name)) new = wanted ≡ Err name
 NotesModule m old wanted (Err Memory) new = ⊤

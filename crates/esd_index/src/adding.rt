@@ -5,6 +5,7 @@ ghost use Rattle.esd_index.specs.Steps.{with_constant};
 ghost use Rattle.esd_index.specs.Modules.{kept_in_order, noted_module, NotesModule};
 
 use crate::constants::{spots_in_order, stand_in_order};
+use crate::flags::Flags;
 use crate::index::Index;
 use crate::noting::Stop;
 use std::alloc::{AllocError, Global};
@@ -41,7 +42,7 @@ impl Index {
         of_module: usize,
         segment: u8,
         m: &SymModule,
-    ) -> Result<Vec<bool>, Stop>
+    ) -> Result<Flags, Stop>
         ensures notes { NotesModule m.now (now_of self.old) (noted_module of_module segment m.now (now_of self.old)) result (now_of self.new) }
         ensures marked { marked_of self.new ≡ marked_of self.old }
     {

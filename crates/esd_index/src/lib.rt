@@ -4,6 +4,7 @@
 
 mod adding;
 mod constants;
+mod flags;
 mod index;
 mod key;
 mod noting;
@@ -11,6 +12,7 @@ mod subset;
 mod symbol_table;
 mod symbols;
 
+pub use flags::Flags;
 pub use index::Index;
 pub use key::{Key, Sighted, flag_at, stands_at};
 pub use noting::Stop;

@@ -5,6 +5,7 @@ ghost use Rattle.esd_index.specs.Contents.{now_of, marked_of};
 ghost use Rattle.esd_index.specs.Steps.{kept_flags, with_seen, with_sights};
 ghost use Rattle.esd_index.specs.Noted.{Notes};
 
+use crate::flags::Flags;
 use crate::index::Index;
 use crate::key::Sighted;
 use le_bytes::Name;
@@ -40,12 +41,12 @@ impl Index {
         of_module: usize,
         segment: u8,
         items: &[Item],
-    ) -> Result<Vec<bool>, AllocError>
-        ensures flags { IfOk result (λ kept. kept.items ≡ kept_flags (now_of self.old).controls items.now) }
+    ) -> Result<Flags, AllocError>
+        ensures flags { IfOk result (λ kept. kept ≡ kept_flags (now_of self.old).controls items.now) }
         ensures noted { IfOk result (λ _. now_of self.new ≡ fold with_seen (now_of self.old) (sights_in of_module segment 0 items.now)) }
         ensures marked { marked_of self.new ≡ marked_of self.old }
     {
-        let mut kept = Vec::with_capacity(alloc, items.len())?;
+        let mut kept = Flags::with_capacity(alloc, items.len())?;
         self.found.clear();
         for (number, item) in items.iter().enumerate() {
             let x = Sighted {

@@ -81,7 +81,7 @@ seen_is xs k i =
     ∙ ap (option_and_then (λ (r : Read). option_map (λ x. let z : Sight = record { of_module = k; number = i; segment = r.segment; item = x } in z) (slice_get r.module_.items i))) (sym (slice_get-map as_read xs k))
     ∙ sym (sight_at_is (map as_read xs) k i)
 
-marked_case : (xs : List Reading) (k i : ℕ) (o : Option Reading) → slice_get xs k ≡ o → AreMarked (map as_read xs) xs → option_map_or (λ (r : Reading). flag_at r.kept.items i) o false ≡ is_some (kept_in (map as_read xs) k i)
+marked_case : (xs : List Reading) (k i : ℕ) (o : Option Reading) → slice_get xs k ≡ o → AreMarked (map as_read xs) xs → option_map_or (λ (r : Reading). flag_at r.kept i) o false ≡ is_some (kept_in (map as_read xs) k i)
 unfolding kept_in
 marked_case xs k i None e marked =
     let none : sight_at (map as_read xs) k i ≡ None = sym (seen_is xs k i) ∙ rw e refl in

@@ -11,8 +11,8 @@ as_read x = record { module_ = x.read; segment = x.segment }
 
 -- the marks of each module say which of its items are kept
 abbrev pub AreMarked : List Read → List Reading → Type 0
-AreMarked rs xs = (k : ℕ) (x : Reading) → slice_get xs k ≡ Some x → (j : ℕ) → flag_at x.kept.items j ≡ is_some (kept_in rs k j)
+AreMarked rs xs = (k : ℕ) (x : Reading) → slice_get xs k ≡ Some x → (j : ℕ) → flag_at x.kept j ≡ is_some (kept_in rs k j)
 
 -- item n of module k is marked
 abbrev pub is_marked_in : List Reading → ℕ → ℕ → Bool
-is_marked_in xs k n = option_map_or (λ x. flag_at x.kept.items n) (slice_get xs k) false
+is_marked_in xs k n = option_map_or (λ x. flag_at x.kept n) (slice_get xs k) false

@@ -1,4 +1,5 @@
 //! A module that was read, as it is kept.
+use esd_index::Flags;
 use sym_mod::SymModule;
 
 /// A module that was read, the segment that was current, and for each item whether it is a section
@@ -7,5 +8,5 @@ use sym_mod::SymModule;
 pub struct Reading {
     pub read: SymModule,
     pub segment: u8,
-    pub kept: Vec<bool>,
+    pub kept: Flags,
 }

@@ -43,13 +43,13 @@ use Rattle.esd_merge.specs.Whole.{module_constants, constants_from, starts_from,
 
 -- ---- homes
 
-pub home_here : (c : Contents) (xs : List Reading) → Holds c xs → (k i : ℕ) (r : Reading) → slice_get xs k ≡ Some r → home_at c k r.segment r.read.items r.kept.items i ≡ kept_in (map as_read xs) k i
+pub home_here : (c : Contents) (xs : List Reading) → Holds c xs → (k i : ℕ) (r : Reading) → slice_get xs k ≡ Some r → home_at c k r.segment r.read.items r.kept i ≡ kept_in (map as_read xs) k i
 unfolding home_at
 home_here c xs h k i r e =
     let rs : List Read = map as_read xs in
-    let flag : flag_at r.kept.items i ≡ is_some (kept_in rs k i) = h.marked k r e i in
+    let flag : flag_at r.kept i ≡ is_some (kept_in rs k i) = h.marked k r e i in
     let seen : sight_at rs k i ≡ option_map (λ x. let z : Sight = record { of_module = k; number = i; segment = r.segment; item = x } in z) (slice_get r.read.items i) = sym (seen_is xs k i) ∙ rw e refl in
-    rw (number_is rs c h.indexed) (rw seen at (home_chosen rs k i (flag_at r.kept.items i) (sym flag)))
+    rw (number_is rs c h.indexed) (rw seen at (home_chosen rs k i (flag_at r.kept i) (sym flag)))
 
 -- ---- names
 
@@ -107,18 +107,18 @@ terms_are rs c L U is m k x [] = refl
 terms_are rs c L U is m k x (t ∷ ts) = rw (means_is rs c L U is m k x t.target, terms_are rs c L U is m k x ts) refl
 
 constant_is : (c : Contents) (xs : List Reading) (L U : Name → Option ℕ) → Holds c xs → Means (map as_read xs) L U → (k : ℕ) (r : Reading) → slice_get xs k ≡ Some r
-    → (x : SymConst) → constant_by c L U k r.segment r.read.items r.kept.items x ≡ constant_of (map as_read xs) k r.read x
+    → (x : SymConst) → constant_by c L U k r.segment r.read.items r.kept x ≡ constant_of (map as_read xs) k r.read x
 unfolding constant_by
 constant_is c xs L U h m k r e x = rw (home_here c xs h k x.item r e, terms_are (map as_read xs) c L U h.indexed m k r.read x.terms) refl
 
 start_is : (c : Contents) (xs : List Reading) → Holds c xs → (k : ℕ) (r : Reading) → slice_get xs k ≡ Some r → (e : SymEntry) → r.read.entry ≡ e
-    → start_by c k r.segment r.read.items r.kept.items e ≡ start_of (map as_read xs) (k, as_read r)
+    → start_by c k r.segment r.read.items r.kept e ≡ start_of (map as_read xs) (k, as_read r)
 unfolding start_by
 start_is c xs h k r at_k NoEntry e = rw e refl
 start_is c xs h k r at_k (At n offset) e = rw (e, home_here c xs h k n r at_k) refl
 start_is c xs h k r at_k (AtName y) e = rw e refl
 
-text_is : (c : Contents) (xs : List Reading) → Holds c xs → (k : ℕ) (r : Reading) → slice_get xs k ≡ Some r → (f : Frag) → text_by c k r.segment r.read.items r.kept.items f ≡ text_of (map as_read xs) k f
+text_is : (c : Contents) (xs : List Reading) → Holds c xs → (k : ℕ) (r : Reading) → slice_get xs k ≡ Some r → (f : Frag) → text_by c k r.segment r.read.items r.kept f ≡ text_of (map as_read xs) k f
 unfolding text_by
 text_is c xs h k r e f = rw (home_here c xs h k f.item r e) refl
 
@@ -144,8 +144,8 @@ unfolding module_constants
 constants_go c xs L U h m l k [] stand = sym (append-nil l)
 constants_go c xs L U h m l k (r ∷ ys) stand =
     let here : module_constants c L U l k r ≡ l ++ filter_map (constant_of (map as_read xs) k r.read) r.read.constants =
-    fold_pushed (constant_by c L U k r.segment r.read.items r.kept.items) l r.read.constants
-    ∙ ap (λ (zs : List Constant). l ++ zs) (filter_map_ext (constant_by c L U k r.segment r.read.items r.kept.items) (constant_of (map as_read xs) k r.read) (constant_is c xs L U h m k r (stands_here xs k r ys stand)) r.read.constants) in
+    fold_pushed (constant_by c L U k r.segment r.read.items r.kept) l r.read.constants
+    ∙ ap (λ (zs : List Constant). l ++ zs) (filter_map_ext (constant_by c L U k r.segment r.read.items r.kept) (constant_of (map as_read xs) k r.read) (constant_is c xs L U h m k r (stands_here xs k r ys stand)) r.read.constants) in
     constants_go c xs L U h m (module_constants c L U l k r) (k + 1) ys (stands_later xs k r ys stand)
     ∙ rw here (append_assoc l (filter_map (constant_of (map as_read xs) k r.read) r.read.constants) (flat_map (λ (m, r). filter_map (constant_of (map as_read xs) m r.module_) r.module_.constants) (enumerate_from (k + 1) (map as_read ys))))
 
@@ -161,8 +161,8 @@ starts_go : (c : Contents) (xs : List Reading) → Holds c xs → (l : List Star
     → starts_from c l k ys ≡ l ++ filter_map (start_of (map as_read xs)) (enumerate_from k (map as_read ys))
 starts_go c xs h l k [] stand = sym (append-nil l)
 starts_go c xs h l k (r ∷ ys) stand =
-    let here : start_by c k r.segment r.read.items r.kept.items r.read.entry ≡ start_of (map as_read xs) (k, as_read r) = start_is c xs h k r (stands_here xs k r ys stand) r.read.entry refl in
-    starts_go c xs h (pushed l (start_by c k r.segment r.read.items r.kept.items r.read.entry)) (k + 1) ys (stands_later xs k r ys stand)
+    let here : start_by c k r.segment r.read.items r.kept r.read.entry ≡ start_of (map as_read xs) (k, as_read r) = start_is c xs h k r (stands_here xs k r ys stand) r.read.entry refl in
+    starts_go c xs h (pushed l (start_by c k r.segment r.read.items r.kept r.read.entry)) (k + 1) ys (stands_later xs k r ys stand)
     ∙ rw here (pushed_case l (start_of (map as_read xs) (k, as_read r)) (filter_map (start_of (map as_read xs)) (enumerate_from (k + 1) (map as_read ys))))
   where
     pushed_case : (l : List StartAt) (o : Option StartAt) (zs : List StartAt) → pushed l o ++ zs ≡ l ++ cons_option o zs
@@ -178,8 +178,8 @@ unfolding module_texts
 texts_go c xs h l k [] stand = sym (append-nil l)
 texts_go c xs h l k (r ∷ ys) stand =
     let here : module_texts c l k r ≡ l ++ filter_map (text_of (map as_read xs) k) r.read.fragments =
-    fold_pushed (text_by c k r.segment r.read.items r.kept.items) l r.read.fragments
-    ∙ ap (λ (zs : List Text). l ++ zs) (filter_map_ext (text_by c k r.segment r.read.items r.kept.items) (text_of (map as_read xs) k) (text_is c xs h k r (stands_here xs k r ys stand)) r.read.fragments) in
+    fold_pushed (text_by c k r.segment r.read.items r.kept) l r.read.fragments
+    ∙ ap (λ (zs : List Text). l ++ zs) (filter_map_ext (text_by c k r.segment r.read.items r.kept) (text_of (map as_read xs) k) (text_is c xs h k r (stands_here xs k r ys stand)) r.read.fragments) in
     texts_go c xs h (module_texts c l k r) (k + 1) ys (stands_later xs k r ys stand)
     ∙ rw here (append_assoc l (filter_map (text_of (map as_read xs) k) r.read.fragments) (flat_map (λ (m, r). filter_map (text_of (map as_read xs) m) r.module_.fragments) (enumerate_from (k + 1) (map as_read ys))))
 

@@ -97,26 +97,26 @@ same_pushed f g same l [] = refl
 same_pushed f g same l (x ∷ xs) = rw (same x) (same_pushed f g same (pushed l (g x)) xs)
 
 constants_here : (c : Contents) (L U : Name → Option ℕ) (list : List Constant) (k : ℕ) (r : Reading)
-    → fold (λ xs x. pushed xs (constant_in c L U (homes_of c k r.segment r.read.items r.kept.items) (targets_of c L U k r.read.items) x)) list r.read.constants ≡ module_constants c L U list k r
+    → fold (λ xs x. pushed xs (constant_in c L U (homes_of c k r.segment r.read.items r.kept) (targets_of c L U k r.read.items) x)) list r.read.constants ≡ module_constants c L U list k r
 unfolding module_constants
 constants_here c L U list k r =
-    same_pushed (constant_in c L U (homes_of c k r.segment r.read.items r.kept.items) (targets_of c L U k r.read.items)) (constant_by c L U k r.segment r.read.items r.kept.items)
-    (constant_is c L U k r.segment r.read.items r.kept.items) list r.read.constants
+    same_pushed (constant_in c L U (homes_of c k r.segment r.read.items r.kept) (targets_of c L U k r.read.items)) (constant_by c L U k r.segment r.read.items r.kept)
+    (constant_is c L U k r.segment r.read.items r.kept) list r.read.constants
 
 pub constants_are : (c : Contents) (L U : Name → Option ℕ) (list : List Constant) (k : ℕ) (r : Reading) (homes : List (Option ℕ)) (targets : List Target) (items : List Item) (kept : List Bool) (constants : List SymConst)
-    → homes ≡ homes_of c k r.segment items kept → targets ≡ targets_of c L U k items → items ≡ r.read.items → kept ≡ r.kept.items → constants ≡ r.read.constants
+    → homes ≡ homes_of c k r.segment items kept → targets ≡ targets_of c L U k items → items ≡ r.read.items → kept ≡ r.kept → constants ≡ r.read.constants
     → fold (λ xs x. pushed xs (constant_in c L U homes targets x)) list constants ≡ module_constants c L U list k r
 constants_are c L U list k r homes targets items kept constants h t i m e = rw (e, h, t, i, m) (constants_here c L U list k r)
 
 texts_here : (c : Contents) (list : List Text) (k : ℕ) (r : Reading)
-    → fold (λ xs f. pushed xs (text_in (homes_of c k r.segment r.read.items r.kept.items) f)) list r.read.fragments ≡ module_texts c list k r
+    → fold (λ xs f. pushed xs (text_in (homes_of c k r.segment r.read.items r.kept) f)) list r.read.fragments ≡ module_texts c list k r
 unfolding module_texts
 texts_here c list k r =
-    same_pushed (text_in (homes_of c k r.segment r.read.items r.kept.items)) (text_by c k r.segment r.read.items r.kept.items)
-    (text_is c k r.segment r.read.items r.kept.items) list r.read.fragments
+    same_pushed (text_in (homes_of c k r.segment r.read.items r.kept)) (text_by c k r.segment r.read.items r.kept)
+    (text_is c k r.segment r.read.items r.kept) list r.read.fragments
 
 pub texts_are : (c : Contents) (list : List Text) (k : ℕ) (r : Reading) (homes : List (Option ℕ)) (items : List Item) (kept : List Bool) (fragments : List Frag)
-    → homes ≡ homes_of c k r.segment items kept → items ≡ r.read.items → kept ≡ r.kept.items → fragments ≡ r.read.fragments
+    → homes ≡ homes_of c k r.segment items kept → items ≡ r.read.items → kept ≡ r.kept → fragments ≡ r.read.fragments
     → fold (λ xs f. pushed xs (text_in homes f)) list fragments ≡ module_texts c list k r
 texts_are c list k r homes items kept fragments h i m e = rw (e, h, i, m) (texts_here c list k r)
 

@@ -1,6 +1,5 @@
 -- The answer of adding a module, and what holds after it.
-use Rattle.std.proofs.Common.{◌≡◌, ℕ, zero, suc, ◌+◌, ◌<◌, Bool, List, [], ◌∷◌, ◌++◌, length, map, slice_get, Option, Some, None, Ok, Err, is_some, refl, sym, ap, ◌∙◌, subst, arith, Vec, ◌⊎◌, inl, inr}
-use Rattle.std.specs.declared.alloc.Global.{Global}
+use Rattle.std.proofs.Common.{◌≡◌, ℕ, zero, suc, ◌+◌, ◌<◌, Bool, List, [], ◌∷◌, ◌++◌, length, map, slice_get, Option, Some, None, Ok, Err, is_some, refl, sym, ap, ◌∙◌, subst, arith, ◌⊎◌, inl, inr}
 use Rattle.std.proofs.lemmas.List.{map-append, length-map}
 use Rattle.std.proofs.lemmas.List.Elements.{All-push}
 use Rattle.le_bytes.specs.declared.name.Name.{Name}
@@ -69,8 +68,8 @@ ok_is : (o : Option Name) (c new : Contents) → outcome o c ≡ Ok new → new 
 ok_is None c new e = cc
 ok_is (Some y) c new e = absurd cc
 
-pub accepted : (rs : List Read) (m : SymModule) (s : ℕ) (old new : Contents) (kept : Vec Bool Global) → merge_fault rs ≡ None → old ≡ content_of rs
-    → Enters m old (noted_module (length rs) s m old) (Ok kept) new → IsAdded rs m s kept.items new
+pub accepted : (rs : List Read) (m : SymModule) (s : ℕ) (old new : Contents) (kept : List Bool) → merge_fault rs ≡ None → old ≡ content_of rs
+    → Enters m old (noted_module (length rs) s m old) (Ok kept) new → IsAdded rs m s kept new
 unfolding content_of
 accepted rs m s old new kept none is enters =
     let clash : double_definition rs ≡ None = no_clash rs none in
@@ -92,7 +91,7 @@ get_split (y ∷ xs) x z (suc k) e = elim (get_split xs x z k e) [ inl h ↦ inl
 pub joined : (xs : List Reading) (x : Reading) → map as_read (xs ++ x ∷ []) ≡ with_module (map as_read xs) x.read x.segment
 joined xs x = map-append as_read xs (x ∷ [])
 
-pub next_marked : (xs : List Reading) (x : Reading) → AreMarked (map as_read xs) xs → ((j : ℕ) → flag_at x.kept.items j ≡ is_some (kept_in (with_module (map as_read xs) x.read x.segment) (length (map as_read xs)) j))
+pub next_marked : (xs : List Reading) (x : Reading) → AreMarked (map as_read xs) xs → ((j : ℕ) → flag_at x.kept j ≡ is_some (kept_in (with_module (map as_read xs) x.read x.segment) (length (map as_read xs)) j))
     → AreMarked (with_module (map as_read xs) x.read x.segment) (xs ++ x ∷ [])
 next_marked xs x old here k z e j =
     elim (get_split xs x z k e) [
@@ -101,7 +100,7 @@ next_marked xs x old here k z e j =
           old k z h.0 j ∙ ap is_some (sym (kept_in_old (map as_read xs) x.read x.segment k j low))
       | inr h ↦
           let place : k ≡ length (map as_read xs) = h.0 ∙ sym (length-map xs as_read) in
-          subst (λ (w : Reading). flag_at w.kept.items j ≡ is_some (kept_in (with_module (map as_read xs) x.read x.segment) k j)) h.1 (rw place (here j))
+          subst (λ (w : Reading). flag_at w.kept j ≡ is_some (kept_in (with_module (map as_read xs) x.read x.segment) k j)) h.1 (rw place (here j))
     ]
 
 -- ---- what holds of all modules

@@ -11,7 +11,7 @@ use Rattle.esd_merge.specs.Meant.{constant_by, start_by, text_by}
 
 -- the list with the constants of module k at its end
 unfoldable pub module_constants : Contents → (Name → Option ℕ) → (Name → Option ℕ) → List Constant → ℕ → Reading → List Constant
-module_constants c labels unknowns list k r = fold (λ xs x. pushed xs (constant_by c labels unknowns k r.segment r.read.items r.kept.items x)) list r.read.constants
+module_constants c labels unknowns list k r = fold (λ xs x. pushed xs (constant_by c labels unknowns k r.segment r.read.items r.kept x)) list r.read.constants
 
 -- the list with the constants of these modules at its end, the first of which is module k
 abbrev pub constants_from : Contents → (Name → Option ℕ) → (Name → Option ℕ) → List Constant → ℕ → List Reading → List Constant
@@ -21,11 +21,11 @@ constants_from c labels unknowns list k (r ∷ rs) = constants_from c labels unk
 -- the list with the entries of these modules at its end
 abbrev pub starts_from : Contents → List StartAt → ℕ → List Reading → List StartAt
 starts_from c list k [] = list
-starts_from c list k (r ∷ rs) = starts_from c (pushed list (start_by c k r.segment r.read.items r.kept.items r.read.entry)) (k + 1) rs
+starts_from c list k (r ∷ rs) = starts_from c (pushed list (start_by c k r.segment r.read.items r.kept r.read.entry)) (k + 1) rs
 
 -- the list with the texts of module k at its end
 unfoldable pub module_texts : Contents → List Text → ℕ → Reading → List Text
-module_texts c list k r = fold (λ xs f. pushed xs (text_by c k r.segment r.read.items r.kept.items f)) list r.read.fragments
+module_texts c list k r = fold (λ xs f. pushed xs (text_by c k r.segment r.read.items r.kept f)) list r.read.fragments
 
 -- the list with the texts of these modules at its end
 abbrev pub texts_from : Contents → List Text → ℕ → List Reading → List Text

@@ -5,7 +5,7 @@ ghost use Rattle.esd_index.specs.Modules.{noted_module};
 ghost use Rattle.esd_merge.specs.Entered.{Enters};
 
 use crate::fault::MergeFault;
-use esd_index::{Index, Stop};
+use esd_index::{Flags, Index, Stop};
 use std::alloc::Global;
 use sym_mod::SymModule;
 
@@ -19,7 +19,7 @@ fn note(
     number: usize,
     segment: u8,
     m: &SymModule,
-) -> Result<Vec<bool>, MergeFault>
+) -> Result<Flags, MergeFault>
     ensures enters { Enters m.now (now_of index.old) (noted_module number segment m.now (now_of index.old)) result (now_of index.new) }
     ensures marked { marked_of index.new ≡ marked_of index.old }
 {
@@ -43,7 +43,7 @@ pub(crate) fn enter(
     number: usize,
     segment: u8,
     m: &SymModule,
-) -> Result<Vec<bool>, MergeFault>
+) -> Result<Flags, MergeFault>
     ensures enters { Enters m.now (now_of index.old) (noted_module number segment m.now (now_of index.old)) result (now_of index.new) }
     ensures marked { marked_of index.new ≡ marked_of index.old }
     ensures back { OnErr result (now_of index.new ≡ marked_of index.old) }

@@ -38,7 +38,7 @@ fn bring_module(
     requires { IsNumbered (now_of index.now) }
     ensures constants { OnOk result (brought.new.constants ≡ module_constants (now_of index.now) (get name_eq meanings.now.labels) (get name_eq meanings.now.unknowns) brought.old.constants number reading) }
     ensures texts { OnOk result (brought.new.texts ≡ module_texts (now_of index.now) brought.old.texts number reading) }
-    ensures starts { OnOk result (brought.new.starts ≡ pushed brought.old.starts (start_by (now_of index.now) number reading.segment reading.read.items reading.kept.items reading.read.entry)) }
+    ensures starts { OnOk result (brought.new.starts ≡ pushed brought.old.starts (start_by (now_of index.now) number reading.segment reading.read.items reading.kept reading.read.entry)) }
 {
     let Reading {
         read,

@@ -11,11 +11,11 @@ returns-clause-constants c = on_ok c.add_texts.result _ _ c.add_texts.ensures (�
     c.in_ok-add_constants.ensures
     ∙ constants_are (now_of c.args.index.now) (get name_eq c.args.meanings.now.labels) (get name_eq c.args.meanings.now.unknowns) c.args.brought.now.constants c.args.number c.args.reading
     c.fill.new.self.homes.items c.fill.new.self.targets.items c.as_slice.result.now c.as_slice-2.result.now c.as_slice-3.result.now
-    c.in_ok-fill.ensures.homes c.in_ok-fill.ensures.targets c.as_slice.ensures c.as_slice-2.ensures.value c.as_slice-3.ensures)
+    c.in_ok-fill.ensures.homes c.in_ok-fill.ensures.targets c.as_slice.ensures c.as_slice-2.ensures c.as_slice-3.ensures)
 
 pub returns-clause-texts : goal.returns-clause-texts
 returns-clause-texts c = on_ok c.add_texts.result _ _ c.add_texts.ensures (λ texts.
     texts
     ∙ texts_are (now_of c.args.index.now) c.args.brought.now.texts c.args.number c.args.reading
     c.fill.new.self.homes.items c.as_slice.result.now c.as_slice-2.result.now c.into_vec.result.items
-    c.in_ok-fill.ensures.homes c.as_slice.ensures c.as_slice-2.ensures.value c.into_vec.ensures)
+    c.in_ok-fill.ensures.homes c.as_slice.ensures c.as_slice-2.ensures c.into_vec.ensures)

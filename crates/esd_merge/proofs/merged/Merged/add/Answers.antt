@@ -28,7 +28,7 @@ invariant_of-self-in-Ok-push c =
     let number : c.len.result ≡ length (map as_read xs) = c.len.ensures ∙ c.self.inside.reads.ok.0 ∙ sym (length-map xs as_read) in
     let enters : Enters c.args.m (now_of c.self.inside.index) (noted_module (length (map as_read xs)) c.args.segment c.args.m (now_of c.self.inside.index)) (Ok c.in-Ok.kept) (now_of c.enter.new.index) =
     subst (λ (n : ℕ). Enters c.args.m (now_of c.self.inside.index) (noted_module n c.args.segment c.args.m (now_of c.self.inside.index)) (Ok c.in-Ok.kept) (now_of c.enter.new.index)) number c.in-Ok.ensures.enters in
-    let added : IsAdded (map as_read xs) c.args.m c.args.segment c.in-Ok.kept.items (now_of c.enter.new.index) =
+    let added : IsAdded (map as_read xs) c.args.m c.args.segment c.in-Ok.kept (now_of c.enter.new.index) =
     accepted (map as_read xs) c.args.m c.args.segment (now_of c.self.inside.index) (now_of c.enter.new.index) c.in-Ok.kept c.self.invariant.merged.faultless c.self.invariant.indexed enters in
     let items : c.push.new.self.items ≡ xs ++ x ∷ [] = c.in-Ok-push.ensures.items in
     let view : map as_read c.push.new.self.items ≡ with_module (map as_read xs) c.args.m c.args.segment = ap (map as_read) items ∙ joined xs x in
@@ -47,7 +47,7 @@ returns c =
     let number : c.len.result ≡ length (map as_read xs) = c.len.ensures ∙ c.self.inside.reads.ok.0 ∙ sym (length-map xs as_read) in
     let enters : Enters c.args.m (now_of c.self.inside.index) (noted_module (length (map as_read xs)) c.args.segment c.args.m (now_of c.self.inside.index)) (Ok c.in-Ok.kept) (now_of c.enter.new.index) =
     subst (λ (n : ℕ). Enters c.args.m (now_of c.self.inside.index) (noted_module n c.args.segment c.args.m (now_of c.self.inside.index)) (Ok c.in-Ok.kept) (now_of c.enter.new.index)) number c.in-Ok.ensures.enters in
-    let added : IsAdded (map as_read xs) c.args.m c.args.segment c.in-Ok.kept.items (now_of c.enter.new.index) =
+    let added : IsAdded (map as_read xs) c.args.m c.args.segment c.in-Ok.kept (now_of c.enter.new.index) =
     accepted (map as_read xs) c.args.m c.args.segment (now_of c.self.inside.index) (now_of c.enter.new.index) c.in-Ok.kept c.self.invariant.merged.faultless c.self.invariant.indexed enters in
     let view : map as_read xs ≡ c.args.self.now = c.self.view_is in
     elim c.match-push.branch [
