@@ -69,6 +69,16 @@ fn bring_module(
     table.add_texts(&mut brought.texts, fragments.into_vec())
 }
 
+/// How many constants the modules have, those of sections that are not kept among them. Only memory
+/// depends on it.
+fn constant_count(reads: &[Reading]) -> usize {
+    let mut count: usize = 0;
+    for reading in reads {
+        count = count.saturating_add(reading.read.constants.len());
+    }
+    count
+}
+
 /// What the modules bring. Each is let go as soon as it is done with, so that its memory serves the
 /// next.
 pub(crate) fn bring(
@@ -83,7 +93,7 @@ pub(crate) fn bring(
     ensures starts { IfOk result (λ x. x.starts ≡ starts_from (now_of index.now) [] 0 reads.items) }
 {
     let mut brought = Brought {
-        constants: Items::new(alloc),
+        constants: Items::from_vec(Vec::with_capacity(alloc, constant_count(reads.as_slice()))?),
         texts: Items::from_vec(Vec::with_capacity(alloc, reads.len())?),
         starts: Items::new(alloc),
     };
