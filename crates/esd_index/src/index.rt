@@ -128,14 +128,8 @@ impl Index {
         let likely = self.found_at(x.number);
         let place = self.table.put(key, likely)?;
         match x.item.kind_kept() {
-            ItemKind::Sd | ItemKind::Pc | ItemKind::Cm => {
-                self.table.put_section(key, place)?;
-                Ok(())
-            }
-            ItemKind::Er => {
-                self.table.put_strong(key, place)?;
-                Ok(())
-            }
+            ItemKind::Sd | ItemKind::Pc | ItemKind::Cm => self.table.put_section(key, place),
+            ItemKind::Er => self.table.put_strong(key, place),
             ItemKind::Wx => self.weak.note(Some(key)),
             _ => self.labels.note(x.kept_label(kept)),
         }

@@ -99,12 +99,13 @@ impl SymbolTable {
     ///
     /// # Errors
     /// Want of memory. The symbols are as before.
-    pub fn put_section(&mut self, key: Key, at: usize) -> Result<bool, AllocError>
+    pub fn put_section(&mut self, key: Key, at: usize) -> Result<(), AllocError>
         requires { position (symbol_eq (as_symbol key)) self.old.symbols.all ≡ Some at }
         ensures noted { OnOk result (self.new ≡ record self.old { sections = with_put self.old.sections (as_symbol key) }) }
         ensures err { OnErr result (self.new ≡ self.old) }
     {
-        self.sections.put(&self.symbols, at, key)
+        self.sections.put(&self.symbols, at, key)?;
+        Ok(())
     }
 
     /// Puts a symbol that has a place among the names of SD items, where it is not there yet, and answers
@@ -126,12 +127,13 @@ impl SymbolTable {
     ///
     /// # Errors
     /// Want of memory. The symbols are as before.
-    pub fn put_strong(&mut self, key: Key, at: usize) -> Result<bool, AllocError>
+    pub fn put_strong(&mut self, key: Key, at: usize) -> Result<(), AllocError>
         requires { position (symbol_eq (as_symbol key)) self.old.symbols.all ≡ Some at }
         ensures noted { OnOk result (self.new ≡ record self.old { strong = with_put self.old.strong (as_symbol key) }) }
         ensures err { OnErr result (self.new ≡ self.old) }
     {
-        self.strong.put(&self.symbols, at, key)
+        self.strong.put(&self.symbols, at, key)?;
+        Ok(())
     }
 
     /// The symbols, in order of first appearance.
