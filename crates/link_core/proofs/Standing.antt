@@ -11,8 +11,8 @@ use Rattle.pds_directory.specs.declared.kinds.Version.TheVariants.{One, Two}
 use Rattle.deck_steps.specs.Decks.{decks_of}
 use Rattle.deck_steps.specs.declared.fault.DeckFault.{DeckFault}
 use Rattle.member_laws.specs.Linkable.{HasEightBytes}
-use Rattle.linkable.specs.Laws.{AreWholeInRoot, FitsAlone, StandsAlone}
-use Rattle.linkable.proofs.Standing.{decks_whole, root_stand}
+use Rattle.deck_laws.specs.Laws.{AreWholeInRoot, FitsAlone, StandsAlone}
+use Rattle.deck_laws.proofs.Standing.{decks_whole, root_stand}
 use Rattle.link_core.specs.declared.linked.Linked.{Linked}
 use Rattle.link_core.specs.declared.linked.LinkFault.{LinkFault}
 use Rattle.link_core.specs.declared.options.Options.{Options}

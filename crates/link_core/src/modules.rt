@@ -5,7 +5,7 @@ ghost use Rattle.linking_model.specs.Points.{default_point};
 ghost use Rattle.pds_lib.specs.Stow.{last_name};
 ghost use Rattle.member_model.specs.Written.{member_written};
 ghost use Rattle.block_storage.specs.Storage.{alone};
-ghost use Rattle.segment_write.specs.Pieces.{IsPieceLength};
+ghost use Rattle.mod_segments.specs.Pieces.{IsPieceLength};
 ghost use Rattle.mod_write.specs.Naming.{IsPoint, seen};
 ghost use Rattle.mod_write.specs.Stowable.{IsStowable as CanBeStowed};
 ghost use Rattle.member_laws.specs.Linkable.{HasEightBytes};

@@ -31,7 +31,7 @@ use Rattle.member_model.specs.Placing.{is_origin}
 use Rattle.member_model.proofs.Fetching.{good_members_are_fetched}
 use Rattle.member_laws.specs.Stands.{StandsPlaced}
 use Rattle.block_storage.specs.Storage.{alone, storage}
-use Rattle.fetch_core.specs.Told.{fetch_text, fetch_answer, unless_bad}
+use Rattle.fetch_text.specs.Told.{fetch_text, fetch_answer, unless_bad}
 use Rattle.link_core.specs.declared.linked.Linked.{Linked}
 use Rattle.link_core.specs.declared.options.Options.{Options}
 use Rattle.link_core.specs.Programs.{entry_address}
@@ -174,11 +174,11 @@ module _ (o : Options) (p : Program) (m : Member) (origin : ℕ) (stands : Stand
   answer_same : told_as m.name (fetch_answer e m.records origin) ≡ program_text p origin
   unfolding fetch_answer
   answer_same =
-      ap (λ n. told_as m.name (if is_origin n origin then unless_bad (fetch_text e m.records origin) (fetch_bad e m.records) else Err (Rattle.fetch_core.specs.declared.stop.FetchStop.TheVariants.Place BadOrigin))) stands.length
+      ap (λ n. told_as m.name (if is_origin n origin then unless_bad (fetch_text e m.records origin) (fetch_bad e m.records) else Err (Rattle.fetch_text.specs.declared.stop.FetchStop.TheVariants.Place BadOrigin))) stands.length
       ∙ cases (is_origin (module_length (alone p)) origin) refl
     where
       cases : (b : Bool) → is_origin (module_length (alone p)) origin ≡ b
-          → told_as m.name (if b then unless_bad (fetch_text e m.records origin) (fetch_bad e m.records) else Err (Rattle.fetch_core.specs.declared.stop.FetchStop.TheVariants.Place BadOrigin))
+          → told_as m.name (if b then unless_bad (fetch_text e m.records origin) (fetch_bad e m.records) else Err (Rattle.fetch_text.specs.declared.stop.FetchStop.TheVariants.Place BadOrigin))
           ≡ (if b then Ok (entry_line (entry_address p origin) ++ dump_text origin (storage (alone p) origin)) else Err (refusal.Place BadOrigin))
       cases true may = ap (λ r. told_as m.name (unless_bad (fetch_text e m.records origin) r)) good ∙ ap (λ text. Ok text) (text_same may)
       cases false not = refl

@@ -20,8 +20,8 @@ use Rattle.member_laws.specs.Linkable.{HasEightBytes}
 use Rattle.block_storage.specs.Storage.{alone}
 use Rattle.deck_steps.specs.Decks.{decks_of}
 use Rattle.deck_steps.specs.declared.fault.DeckFault.{DeckFault}
-use Rattle.linkable.specs.Laws.{FitsAlone, StandsAlone}
-use Rattle.linkable.proofs.Standing.{decks_stand}
+use Rattle.deck_laws.specs.Laws.{FitsAlone, StandsAlone}
+use Rattle.deck_laws.proofs.Standing.{decks_stand}
 use Rattle.link_core.specs.declared.options.Options.{Options}
 use Rattle.link_core.specs.declared.program.ProgramFault.{ProgramFault}
 use Rattle.link_core.specs.Programs.{root_program, root_refusal, name_refusal, limit_refusal, link_refusal, deck_fault, unless_refused, program_of_decks, program_of_cards}

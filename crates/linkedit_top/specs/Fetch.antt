@@ -9,9 +9,9 @@ use Rattle.pds_directory.specs.declared.entry.Entry.{Entry}
 use Rattle.pds_lib.specs.declared.set.Set.{Set}
 use Rattle.pds_lib.specs.Contents.{Contents, find_entry, records_of}
 use Rattle.member_model.specs.Symbols.{is_overlay_member, is_scatter_member}
-use Rattle.fetch_core.specs.declared.stop.FetchStop.{FetchStop}
-use Rattle.fetch_core.specs.declared.stop.FetchStop.TheVariants.{Place, Module, ReadFault, Memory}
-use Rattle.fetch_core.specs.Told.{fetch_answer}
+use Rattle.fetch_text.specs.declared.stop.FetchStop.{FetchStop}
+use Rattle.fetch_text.specs.declared.stop.FetchStop.TheVariants.{Place, Module, ReadFault, Memory}
+use Rattle.fetch_text.specs.Told.{fetch_answer}
 use Rattle.linkedit_top.specs.declared.status.Status.TheVariants.{Done}
 use Rattle.linkedit_top.specs.declared.answer.Answer.{Answer}
 use Rattle.linkedit_top.specs.Refusing.{refused, unbuilt}

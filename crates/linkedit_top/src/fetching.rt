@@ -11,7 +11,7 @@ use crate::refusing::{refused, unbuilt};
 use crate::status::Status;
 use command_words::Request;
 use command_words::keys::SYSLMOD;
-use fetch_core::{FetchStop, fetched_text};
+use fetch_text::{FetchStop, fetched_text};
 use le_bytes::{Bytes, Items, Memory, Name, Refusal, Spot};
 use le_io::MemStore;
 use pds_lib::{Entry, Library, Set};

@@ -19,8 +19,8 @@ use Rattle.load_recs.specs.declared.items.RldItem.{RldItem}
 use Rattle.member_model.specs.Parts.{Part as Seen, parts_in, section_kind}
 use Rattle.member_model.specs.Pieces.{Piece, pieces, records_or_empty, ends_at}
 use Rattle.member_model.specs.Written.{pieces_as, part_pieces, segment_records}
-use Rattle.part_list.specs.Seen.{seen}
-use Rattle.part_list.specs.declared.part.Part.{Part}
+use Rattle.mod_parts.specs.Seen.{seen}
+use Rattle.mod_parts.specs.declared.part.Part.{Part}
 use Rattle.mod_write.specs.Written.{segment_bytes, bytes_of_segments}
 
 -- ---- the parts of a segment

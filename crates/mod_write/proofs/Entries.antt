@@ -34,8 +34,8 @@ use Rattle.load_recs.specs.declared.items.RldItem.{RldItem}
 use Rattle.sym_mod.specs.declared.module.Kind.TheVariants.{Address}
 use Rattle.member_model.specs.Parts.{EntryTable, part_number, target_number}
 use Rattle.member_model.specs.Chunks.{entry_items}
-use Rattle.segment_write.specs.Chunks.{IsItem}
-use Rattle.segment_write.specs.Pieces.{last_byte}
+use Rattle.mod_segments.specs.Chunks.{IsItem}
+use Rattle.mod_segments.specs.Pieces.{last_byte}
 use Rattle.mod_write.proofs.Sorted.{InOrder, in_order_all}
 use Rattle.mod_write.proofs.Pairs.{non_decreasing}
 use Rattle.mod_write.proofs.Relocations.{few_symbols, number_within, target_within}

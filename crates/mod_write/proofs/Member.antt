@@ -12,7 +12,7 @@ use Rattle.relocate.proofs.Rows.{segments_listed}
 use Rattle.member_model.specs.Cuts.{together}
 use Rattle.member_model.specs.SymbolList.{first_records}
 use Rattle.member_model.specs.Written.{segment_records, note_records, written, written_bytes}
-use Rattle.segment_write.specs.Records.{IsStored}
+use Rattle.mod_segments.specs.Records.{IsStored}
 use Rattle.mod_write.specs.Written.{segment_bytes, bytes_of_segments, note_bytes}
 
 map_together : {X Y : Type 0} (f : X → Y) (lists : List (List X)) → map f (together lists) ≡ together (map (map f) lists)

@@ -14,10 +14,10 @@ use Rattle.linking_model.specs.Places.{Laid, module_length}
 use Rattle.member_model.specs.Parts.{OneSection, part_number}
 use Rattle.member_model.specs.Written.{address_of_point, alias_of, written_bytes, member_written}
 use Rattle.addr_assign.specs.Laid.{places_of}
-use Rattle.segment_write.specs.Records.{IsStored}
-use Rattle.part_list.specs.Listed.{CanBeListed}
-use Rattle.part_list.specs.Placed.{ArePlacesOf}
-use Rattle.part_list.proofs.Addressed.{part_end}
+use Rattle.mod_segments.specs.Records.{IsStored}
+use Rattle.mod_parts.specs.Listed.{CanBeListed}
+use Rattle.mod_parts.specs.Placed.{ArePlacesOf}
+use Rattle.mod_parts.proofs.Addressed.{part_end}
 use Rattle.mod_write.specs.declared.naming.PointAt.{PointAt}
 use Rattle.mod_write.specs.declared.naming.AliasPoint.{AliasPoint}
 use Rattle.mod_write.specs.declared.naming.Format.{Format}

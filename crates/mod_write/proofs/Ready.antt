@@ -13,14 +13,14 @@ use Rattle.linking_model.specs.Tables.{entries}
 use Rattle.relocate.proofs.Bounds.{few_entries}
 use Rattle.member_model.specs.Parts.{Part, SegmentTable, OneSection, EntryTable, part_number, part_place, part_length}
 use Rattle.member_model.specs.Chunks.{part_items}
-use Rattle.part_list.specs.Listed.{CanBeListed}
-use Rattle.part_list.specs.Placed.{ArePlacesOf}
-use Rattle.part_list.specs.Seen.{IsPartOf, IsTargetOf}
-use Rattle.part_list.proofs.Counted.{few_items}
-use Rattle.part_list.proofs.Addressed.{part_end, table_near}
-use Rattle.segment_write.specs.Chunks.{IsItem}
-use Rattle.segment_write.specs.Pieces.{IsPart, last_byte}
-use Rattle.segment_write.specs.declared.piece.PlacedPart.{PlacedPart}
+use Rattle.mod_parts.specs.Listed.{CanBeListed}
+use Rattle.mod_parts.specs.Placed.{ArePlacesOf}
+use Rattle.mod_parts.specs.Seen.{IsPartOf, IsTargetOf}
+use Rattle.mod_parts.proofs.Counted.{few_items}
+use Rattle.mod_parts.proofs.Addressed.{part_end, table_near}
+use Rattle.mod_segments.specs.Chunks.{IsItem}
+use Rattle.mod_segments.specs.Pieces.{IsPart, last_byte}
+use Rattle.mod_segments.specs.declared.piece.PlacedPart.{PlacedPart}
 use Rattle.mod_write.specs.declared.chains.Chains.{Chains}
 use Rattle.mod_write.specs.Ready.{IsSource}
 use Rattle.mod_write.proofs.Relocations.{few_symbols, AreNear, number_within, items_are, items_ordered, items_inside}

@@ -23,8 +23,8 @@ use Rattle.load_recs.specs.declared.items.RldItem.{RldItem}
 use Rattle.linking_model.specs.Places.{Laid, place, length_of_section}
 use Rattle.member_model.specs.Parts.{Part, OneSection, parts, part_eq, part_number, target_number}
 use Rattle.member_model.specs.Chunks.{term_item, section_items}
-use Rattle.segment_write.specs.Chunks.{IsItem}
-use Rattle.segment_write.specs.Pieces.{last_byte}
+use Rattle.mod_segments.specs.Chunks.{IsItem}
+use Rattle.mod_segments.specs.Pieces.{last_byte}
 use Rattle.mod_write.proofs.Sorted.{in_order_all, in_order_ordered}
 use Rattle.mod_write.proofs.Pairs.{Pairs, pairs_by, pairs_append, pairs_in_order, in_order_as, non_decreasing, all_flat}
 use Rattle.mod_write.proofs.Terms.{flag_of, SignFits, signs_fit, term_alone, term_length, term_known}

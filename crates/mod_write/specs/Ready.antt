@@ -5,9 +5,9 @@ use Rattle.linking_model.specs.Places.{Laid, is_overlay}
 use Rattle.linking_model.specs.Linked.{block}
 use Rattle.relocate.specs.Ready.{FitTogether}
 use Rattle.relocate.specs.Agreeing.{linked_text}
-use Rattle.part_list.specs.Listed.{CanBeListed}
-use Rattle.part_list.specs.Placed.{ArePlacesOf}
-use Rattle.segment_write.specs.Pieces.{IsPieceLength}
+use Rattle.mod_parts.specs.Listed.{CanBeListed}
+use Rattle.mod_parts.specs.Placed.{ArePlacesOf}
+use Rattle.mod_segments.specs.Pieces.{IsPieceLength}
 use Rattle.mod_write.specs.declared.chains.Chains.{Chains}
 use Rattle.mod_write.specs.declared.naming.Format.{Format}
 use Rattle.mod_write.specs.Chained.{AreChained}

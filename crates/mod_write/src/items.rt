@@ -5,8 +5,8 @@ ghost use Rattle.linking_model.specs.Tree.{segments};
 ghost use Rattle.linking_model.specs.Tables.{entries};
 ghost use Rattle.member_model.specs.Chunks.{by_address, kind_flag, outside_flag, term_item, section_items, entry_items};
 ghost use Rattle.relocate.specs.Listed.{table_of};
-ghost use Rattle.part_list.specs.Listed.{CanBeListed};
-ghost use Rattle.part_list.specs.Placed.{ArePlacesOf};
+ghost use Rattle.mod_parts.specs.Listed.{CanBeListed};
+ghost use Rattle.mod_parts.specs.Placed.{ArePlacesOf};
 ghost use Rattle.mod_write.specs.Chained.{AreChained};
 ghost use Rattle.mod_write.specs.Items.{terms_in};
 
@@ -14,7 +14,7 @@ use crate::chains::Chains;
 use crate::sorting::by_address;
 use le_bytes::Memory;
 use load_recs::RldItem;
-use part_list::{Part, PartList};
+use mod_parts::{Part, PartList};
 use std::alloc::{AllocError, Global};
 use sym_mod::{Constant, Kind, Places, Tables, Target, Term};
 

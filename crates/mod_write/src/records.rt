@@ -3,13 +3,13 @@ ghost use Rattle.std.specs.Prelude.{◌≡◌, ◌++◌, All, length, map, IfOk,
 ghost use Rattle.linking_model.specs.Places.{is_overlay};
 ghost use Rattle.member_model.specs.Cuts.{together};
 ghost use Rattle.member_model.specs.Written.{written_bytes};
-ghost use Rattle.segment_write.specs.Records.{IsStored};
+ghost use Rattle.mod_segments.specs.Records.{IsStored};
 ghost use Rattle.mod_write.specs.Ready.{IsSource};
 ghost use Rattle.mod_write.specs.Written.{bytes_of_segments, note_bytes};
 
 use crate::naming::Format;
 use crate::segments::{Source, segments};
-use head_write::{head_records, note_records};
+use mod_heads::{head_records, note_records};
 use le_bytes::{Bytes, Items, Memory};
 use std::alloc::{AllocError, Global};
 use text_store::TextKeeper;

@@ -4,10 +4,10 @@ ghost use Rattle.member_model.specs.Parts.{SegmentTable as Segtab, OneSection, E
 ghost use Rattle.member_model.specs.Chunks.{part_items};
 ghost use Rattle.member_model.specs.Pieces.{Piece};
 ghost use Rattle.member_model.specs.Written.{part_pieces};
-ghost use Rattle.part_list.specs.Seen.{seen, IsPartOf};
-ghost use Rattle.segment_write.specs.Pieces.{IsPart};
-ghost use Rattle.segment_write.specs.Records.{IsStored};
-ghost use Rattle.segment_write.specs.Writing.{IsReady, HasPieces};
+ghost use Rattle.mod_parts.specs.Seen.{seen, IsPartOf};
+ghost use Rattle.mod_segments.specs.Pieces.{IsPart};
+ghost use Rattle.mod_segments.specs.Records.{IsStored};
+ghost use Rattle.mod_segments.specs.Writing.{IsReady, HasPieces};
 ghost use Rattle.mod_write.specs.Ready.{IsSource};
 ghost use Rattle.mod_write.specs.Written.{segment_bytes, bytes_of_segments};
 
@@ -15,9 +15,9 @@ use crate::chains::Chains;
 use crate::items::{entry_items, fill_section_items};
 use le_bytes::{Bytes, Items, Memory};
 use load_recs::{Ends, RldItem};
-use part_list::{Part, PartList};
+use mod_parts::{Part, PartList};
 use relocate::{entab_bytes, segtab_bytes};
-use segment_write::{PlacedPart, SegmentRecords, add_section, add_table};
+use mod_segments::{PlacedPart, SegmentRecords, add_section, add_table};
 use std::alloc::{AllocError, Global};
 use sym_mod::{Places, SecKind};
 use text_store::TextKeeper;

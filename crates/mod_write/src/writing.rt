@@ -13,7 +13,7 @@ use crate::naming::{AliasPoint, Format, Naming, PointAt};
 use crate::records::records;
 use crate::segments::Source;
 use le_bytes::{Items, Memory};
-use part_list::{Part, PartList};
+use mod_parts::{Part, PartList};
 use pds_lib::{AliasAt, Member};
 use seg_tree::SegTree;
 use std::alloc::{AllocError, Global};

@@ -18,9 +18,9 @@ use Rattle.member_model.specs.Faults.{first_some, when, fault}
 use Rattle.member_model.specs.FirstBad.{Fault, at, faults_from, first_symbols, head_fault, entry_fault, first_bad_of, first_bad, fetch_bad}
 use Rattle.member_model.specs.Placing.{may_scatter, is_of_segment, heads}
 use Rattle.member_walk.proofs.HeadLists.{faults-append}
-use Rattle.placing.specs.declared.placement.Area.{Area}
-use Rattle.placing.specs.declared.placement.Placement.{Placement}
-use Rattle.placing.specs.Extents.{Fits}
+use Rattle.fetch_places.specs.declared.placement.Area.{Area}
+use Rattle.fetch_places.specs.declared.placement.Placement.{Placement}
+use Rattle.fetch_places.specs.Extents.{Fits}
 use Rattle.prog_fetch.specs.Scattering.{head_symbols, Places}
 use Rattle.prog_fetch.proofs.Sound.{left_none, right_none}
 use Rattle.prog_fetch.proofs.Records.{front_back, none_of_map}

@@ -27,21 +27,21 @@ use Rattle.member_walk.specs.Walked.{Walked, IsWalked}
 use Rattle.member_walk.specs.Told.{is_fetched_on, is_fetched_whole}
 use Rattle.member_walk.proofs.Fetching.{fetch_runs_out}
 use Rattle.member_walk.proofs.HeadLists.{facts_split}
-use Rattle.placing.specs.declared.extent.Extent.{Extent}
-use Rattle.placing.specs.declared.placement.Placement.{Placement}
-use Rattle.placing.specs.declared.placement.Placement.TheVariants.{Block, Scattered}
-use Rattle.placing.specs.Addresses.{addresses_by, extents_by}
-use Rattle.placing.specs.Extents.{EndsLow, Fits}
-use Rattle.part_store.specs.declared.part.Part.{Part}
-use Rattle.part_store.specs.Held.{holding, part_in}
-use Rattle.part_store.specs.Homes.{home_by, home_at}
-use Rattle.part_store.specs.Kept.{Kept, FieldsLie, LieInPart, with_fields as with_shifts, parts_of, address_in}
-use Rattle.part_store.specs.Shifts.{shifts_by, shifts_in}
-use Rattle.part_store.specs.Sound.{InSection, Suits, AllSound}
-use Rattle.part_store.proofs.Laying.{parts_are}
-use Rattle.part_store.proofs.Loading.{fields_lie, loaded_holds}
-use Rattle.part_store.proofs.Relocating.{shifts_are}
-use Rattle.part_store.proofs.Standing.{Stands, stands, lies, address_is}
+use Rattle.fetch_places.specs.declared.extent.Extent.{Extent}
+use Rattle.fetch_places.specs.declared.placement.Placement.{Placement}
+use Rattle.fetch_places.specs.declared.placement.Placement.TheVariants.{Block, Scattered}
+use Rattle.fetch_places.specs.Addresses.{addresses_by, extents_by}
+use Rattle.fetch_places.specs.Extents.{EndsLow, Fits}
+use Rattle.fetch_storage.specs.declared.part.Part.{Part}
+use Rattle.fetch_storage.specs.Held.{holding, part_in}
+use Rattle.fetch_storage.specs.Homes.{home_by, home_at}
+use Rattle.fetch_storage.specs.Kept.{Kept, FieldsLie, LieInPart, with_fields as with_shifts, parts_of, address_in}
+use Rattle.fetch_storage.specs.Shifts.{shifts_by, shifts_in}
+use Rattle.fetch_storage.specs.Sound.{InSection, Suits, AllSound}
+use Rattle.fetch_storage.proofs.Laying.{parts_are}
+use Rattle.fetch_storage.proofs.Loading.{fields_lie, loaded_holds}
+use Rattle.fetch_storage.proofs.Relocating.{shifts_are}
+use Rattle.fetch_storage.proofs.Standing.{Stands, stands, lies, address_is}
 use Rattle.prog_fetch.specs.declared.fault.FetchFault.{FetchFault}
 use Rattle.prog_fetch.specs.declared.fault.FetchFault.TheVariants.{At, ReadFault, Memory}
 use Rattle.prog_fetch.specs.declared.fetched.Fetched.{Fetched}

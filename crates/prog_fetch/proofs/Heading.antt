@@ -17,11 +17,11 @@ use Rattle.member_walk.specs.Told.{IsFirstFault}
 use Rattle.member_walk.specs.declared.faults.WalkFault.{WalkFault}
 use Rattle.member_walk.specs.declared.faults.WalkFault.TheVariants.{At as AtRecord, Memory as NoWalkMemory}
 use Rattle.member_walk.proofs.Fetching.{whole_members_end}
-use Rattle.placing.specs.declared.placement.Area.{Area}
-use Rattle.placing.specs.declared.placement.Placement.{Placement}
-use Rattle.placing.specs.declared.placement.Placement.TheVariants.{Block, Scattered}
-use Rattle.placing.specs.Extents.{Fits}
-use Rattle.placing.specs.Over.{left_of, IsOver}
+use Rattle.fetch_places.specs.declared.placement.Area.{Area}
+use Rattle.fetch_places.specs.declared.placement.Placement.{Placement}
+use Rattle.fetch_places.specs.declared.placement.Placement.TheVariants.{Block, Scattered}
+use Rattle.fetch_places.specs.Extents.{Fits}
+use Rattle.fetch_places.specs.Over.{left_of, IsOver}
 use Rattle.prog_fetch.specs.declared.fault.ScatterFault.{ScatterFault}
 use Rattle.prog_fetch.specs.declared.fault.ScatterFault.TheVariants.{NotScatter, Record, NoStorage, ReadFault, Memory}
 use Rattle.prog_fetch.specs.Scattering.{head_symbols, Places, PlacesSome, PlacesAt, PlacedOver, are_heads, HasHeads, PlacesNext, GoesOn, AnswersNext}

@@ -13,8 +13,8 @@ use Rattle.member_model.proofs.Gathered.{records_add_facts}
 use Rattle.member_walk.specs.Walked.{Walked, IsWalked}
 use Rattle.member_walk.specs.Told.{text_told, is_fetched_on}
 use Rattle.member_walk.specs.declared.parts.TextPlace.{TextPlace}
-use Rattle.placing.specs.declared.placement.Placement.{Placement}
-use Rattle.part_store.specs.Kept.{Kept, empty_parts, LieInPart, with_text}
+use Rattle.fetch_places.specs.declared.placement.Placement.{Placement}
+use Rattle.fetch_storage.specs.Kept.{Kept, empty_parts, LieInPart, with_text}
 use Rattle.prog_fetch.specs.declared.fault.FetchFault.{FetchFault}
 use Rattle.prog_fetch.specs.Given.{IsPlacementOf}
 use Rattle.prog_fetch.specs.Reading.{HasHead, HasText, HasAll, IsOver, IsLaid, IsLaidOf, LaysNext}

@@ -8,10 +8,10 @@ use Rattle.load_recs.specs.declared.items.SymbolKind.{SymbolKind}
 use Rattle.load_recs.specs.declared.items.SymbolKind.TheVariants.{Sd, Er, Lr, Pc, Cm, Pr, Null, Wx}
 use Rattle.member_model.specs.Symbols.{is_overlay_member, is_section, is_section_kind, end_of}
 use Rattle.member_model.specs.Faults.{last_end, is_section_outside, symbol_fault, symbols_fault}
-use Rattle.placing.specs.declared.placement.Placement.{Placement}
-use Rattle.placing.specs.declared.placement.Placement.TheVariants.{Block, Scattered}
-use Rattle.part_store.specs.Sound.{Suits, SectionsApart}
-use Rattle.part_store.proofs.Standing.{ItemPlace, item_place}
+use Rattle.fetch_places.specs.declared.placement.Placement.{Placement}
+use Rattle.fetch_places.specs.declared.placement.Placement.TheVariants.{Block, Scattered}
+use Rattle.fetch_storage.specs.Sound.{Suits, SectionsApart}
+use Rattle.fetch_storage.proofs.Standing.{ItemPlace, item_place}
 use Rattle.prog_fetch.proofs.Sound.{left_none, right_none, not_bad}
 
 -- ---- one symbol

@@ -21,8 +21,8 @@ use Rattle.member_model.specs.Symbols.{is_overlay_member, is_scatter_member, is_
 use Rattle.member_model.specs.Facts.{Facts, Text, Field, no_facts, seen, stage_of, ended_by, with_fields, with_contents, with_record}
 use Rattle.member_model.specs.Faults.{first_some, when, is_asked, symbol_fault, symbols_fault, text_section, lies_in, text_fault, fits, shares_wrongly, differ, field_fault, fields_fault, segment_count, ends_wrongly, segment_fault, is_incomplete, kind_fault, place_fault, fault_with, fault}
 use Rattle.member_model.specs.Loaded.{is_shifted}
-use Rattle.part_store.specs.Shifts.{moves}
-use Rattle.part_store.specs.Sound.{InSection, HasMover, SoundField, NoneShares, AllSound}
+use Rattle.fetch_storage.specs.Shifts.{moves}
+use Rattle.fetch_storage.specs.Sound.{InSection, HasMover, SoundField, NoneShares, AllSound}
 
 -- ---- faults that are not there
 

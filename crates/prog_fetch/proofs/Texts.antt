@@ -14,15 +14,15 @@ use Rattle.member_model.specs.Loaded.{Addresses, moved, text_storage}
 use Rattle.member_walk.specs.Walked.{Walked, IsWalked}
 use Rattle.member_walk.specs.Told.{text_told}
 use Rattle.member_walk.specs.declared.parts.TextPlace.{TextPlace}
-use Rattle.placing.specs.declared.placement.Placement.{Placement}
-use Rattle.placing.specs.declared.placement.Placement.TheVariants.{Block, Scattered}
-use Rattle.placing.specs.Addresses.{addresses_by}
-use Rattle.placing.specs.Extents.{Fits}
-use Rattle.part_store.specs.Held.{Sized, holding}
-use Rattle.part_store.specs.Kept.{Kept, empty_parts, LieInPart, with_text}
-use Rattle.part_store.specs.Sound.{InSection, Suits}
-use Rattle.part_store.proofs.Laying.{empty_sized, empty_holds, text_sized, text_holds}
-use Rattle.part_store.proofs.Standing.{lies}
+use Rattle.fetch_places.specs.declared.placement.Placement.{Placement}
+use Rattle.fetch_places.specs.declared.placement.Placement.TheVariants.{Block, Scattered}
+use Rattle.fetch_places.specs.Addresses.{addresses_by}
+use Rattle.fetch_places.specs.Extents.{Fits}
+use Rattle.fetch_storage.specs.Held.{Sized, holding}
+use Rattle.fetch_storage.specs.Kept.{Kept, empty_parts, LieInPart, with_text}
+use Rattle.fetch_storage.specs.Sound.{InSection, Suits}
+use Rattle.fetch_storage.proofs.Laying.{empty_sized, empty_holds, text_sized, text_holds}
+use Rattle.fetch_storage.proofs.Standing.{lies}
 use Rattle.prog_fetch.specs.Given.{IsPlacementOf}
 use Rattle.prog_fetch.specs.Reading.{IsLaid}
 use Rattle.prog_fetch.proofs.Sound.{Sound, DueSound, IsEarly, right_place, told_length}

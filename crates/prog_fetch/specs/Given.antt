@@ -7,12 +7,12 @@ use Rattle.member_model.specs.Facts.{no_facts, walked}
 use Rattle.member_model.specs.FirstBad.{fetch_bad}
 use Rattle.member_model.specs.Fetched.{Fetched as Member, fetched, fetched_over, entry_address, first_storage}
 use Rattle.member_model.specs.Placing.{is_origin, may_scatter}
-use Rattle.placing.specs.declared.placement.Placement.{Placement}
-use Rattle.placing.specs.declared.placement.Placement.TheVariants.{Block, Scattered}
-use Rattle.placing.specs.Addresses.{extents_by}
-use Rattle.placing.specs.Extents.{Fits}
-use Rattle.part_store.specs.Held.{part_in}
-use Rattle.part_store.specs.Shifts.{shifts_by}
+use Rattle.fetch_places.specs.declared.placement.Placement.{Placement}
+use Rattle.fetch_places.specs.declared.placement.Placement.TheVariants.{Block, Scattered}
+use Rattle.fetch_places.specs.Addresses.{extents_by}
+use Rattle.fetch_places.specs.Extents.{Fits}
+use Rattle.fetch_storage.specs.Held.{part_in}
+use Rattle.fetch_storage.specs.Shifts.{shifts_by}
 use Rattle.prog_fetch.specs.declared.fault.FetchFault.{FetchFault}
 use Rattle.prog_fetch.specs.declared.fault.FetchFault.TheVariants.{At, ReadFault, Memory}
 use Rattle.prog_fetch.specs.declared.fetched.Fetched.{Fetched}

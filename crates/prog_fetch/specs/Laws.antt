@@ -3,9 +3,9 @@ use Rattle.std.specs.Prelude.{◌≡◌, ℕ, List, None, Ok}
 use Rattle.pds_directory.specs.declared.entry.Entry.{Entry}
 use Rattle.member_model.specs.Facts.{no_facts, walked}
 use Rattle.member_model.specs.FirstBad.{fetch_bad}
-use Rattle.placing.specs.declared.placement.Area.{Area}
-use Rattle.placing.specs.declared.placement.Placement.{Placement}
-use Rattle.placing.specs.Extents.{Fits}
+use Rattle.fetch_places.specs.declared.placement.Area.{Area}
+use Rattle.fetch_places.specs.declared.placement.Placement.{Placement}
+use Rattle.fetch_places.specs.Extents.{Fits}
 use Rattle.prog_fetch.specs.Scattering.{Places}
 
 -- what a member is placed by is what a fetch of it reads, so that its sections fit where they were placed

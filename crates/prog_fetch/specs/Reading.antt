@@ -9,11 +9,11 @@ use Rattle.member_model.specs.Loaded.{text_storage}
 use Rattle.member_walk.specs.Walked.{Walked, IsWalked}
 use Rattle.member_walk.specs.Told.{IsFirstFault, is_fetched_on, is_fetched_whole}
 use Rattle.member_walk.specs.declared.faults.WalkFault.TheVariants.{At as AtRecord}
-use Rattle.placing.specs.declared.placement.Placement.{Placement}
-use Rattle.placing.specs.Addresses.{addresses_by}
-use Rattle.placing.specs.Extents.{Fits}
-use Rattle.part_store.specs.Held.{Sized, holding}
-use Rattle.part_store.specs.Kept.{Kept}
+use Rattle.fetch_places.specs.declared.placement.Placement.{Placement}
+use Rattle.fetch_places.specs.Addresses.{addresses_by}
+use Rattle.fetch_places.specs.Extents.{Fits}
+use Rattle.fetch_storage.specs.Held.{Sized, holding}
+use Rattle.fetch_storage.specs.Kept.{Kept}
 use Rattle.prog_fetch.specs.declared.fault.FetchFault.{FetchFault}
 use Rattle.prog_fetch.specs.declared.fault.FetchFault.TheVariants.{At, ReadFault, Memory}
 use Rattle.prog_fetch.specs.declared.fetched.Fetched.{Fetched}

@@ -7,10 +7,10 @@ use Rattle.load_recs.specs.declared.items.SymbolItem.{SymbolItem}
 use Rattle.member_model.specs.Facts.{facts}
 use Rattle.member_model.specs.Placing.{may_scatter, sections_of, homeless, is_of_segment, heads, placing_bad}
 use Rattle.member_walk.specs.Walked.{Walked, IsWalked}
-use Rattle.placing.specs.declared.placement.Area.{Area}
-use Rattle.placing.specs.declared.placement.Placement.{Placement}
-use Rattle.placing.specs.Extents.{Fits}
-use Rattle.placing.specs.Over.{left_of, IsOver}
+use Rattle.fetch_places.specs.declared.placement.Area.{Area}
+use Rattle.fetch_places.specs.declared.placement.Placement.{Placement}
+use Rattle.fetch_places.specs.Extents.{Fits}
+use Rattle.fetch_places.specs.Over.{left_of, IsOver}
 use Rattle.prog_fetch.specs.declared.fault.ScatterFault.{ScatterFault}
 use Rattle.prog_fetch.specs.declared.fault.ScatterFault.TheVariants.{NotScatter, Record, NoStorage, ReadFault, Memory}
 use Rattle.prog_fetch.specs.Sources.{Seen, NothingFailed, AreOf}

@@ -1,7 +1,7 @@
 //! A fetch.
 ghost use Rattle.std.specs.Prelude.{◌≡◌, IfErr, IfOk, None, OnOk, [], true};
 ghost use Rattle.le_io.specs.Counts.{WhereTold};
-ghost use Rattle.part_store.specs.Kept.{empty_parts};
+ghost use Rattle.fetch_storage.specs.Kept.{empty_parts};
 ghost use Rattle.prog_fetch.specs.Given.{IsPlacementOf, Answers, AnswersSome};
 ghost use Rattle.prog_fetch.specs.Reading.{HasHead, HasAll, IsOver, FindsFault};
 ghost use Rattle.prog_fetch.specs.Sources.{seen, Stays, HasReason};
@@ -13,9 +13,9 @@ use crate::reading::{Task, take_head, take_text};
 use le_io::Store;
 use lib_stream::RecordSource;
 use member_walk::Walk;
-use part_store::Parts;
+use fetch_storage::Parts;
 use pds_lib::Entry;
-use placing::Placement;
+use fetch_places::Placement;
 use std::alloc::Global;
 
 /// Fetches a member into storage where it is placed: of an overlay member the head records and

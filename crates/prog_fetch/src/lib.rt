@@ -13,6 +13,6 @@ pub use fault::{FetchFault, ScatterFault};
 pub use fetched::Fetched;
 pub use fetching::fetch;
 pub use laws::placed_members_fit;
-pub use part_store::Part;
-pub use placing::{Area, Placement, place_block};
+pub use fetch_storage::Part;
+pub use fetch_places::{Area, Placement, place_block};
 pub use scattering::place_scatter;

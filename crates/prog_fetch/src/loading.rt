@@ -5,7 +5,7 @@ ghost use Rattle.member_model.specs.FirstBad.{first_bad_of, root_part};
 ghost use Rattle.member_walk.specs.Fields.{items_of};
 ghost use Rattle.member_walk.specs.Told.{is_fetched_whole};
 ghost use Rattle.member_walk.specs.Walked.{IsWalked};
-ghost use Rattle.placing.specs.Extents.{Fits};
+ghost use Rattle.fetch_places.specs.Extents.{Fits};
 ghost use Rattle.prog_fetch.specs.Given.{IsPlacementOf, given};
 ghost use Rattle.prog_fetch.specs.Reading.{IsLaid, IsLaidOf, Completes, AnswersAll, EndsWith, SectionsFit, IsGood, Gives};
 
@@ -15,9 +15,9 @@ use crate::reading::Task;
 use le_bytes::{Items, Memory, RecWhat};
 use load_recs::RldItem;
 use member_walk::{SegmentField, Walk, WalkParts};
-use part_store::Parts;
+use fetch_storage::Parts;
 use pds_lib::Entry;
-use placing::fits;
+use fetch_places::fits;
 use std::alloc::{AllocError, Global};
 
 /// What is fetched, or why not, once all records were read and their text is laid.

@@ -10,9 +10,9 @@ use crate::fault::{FetchFault, fault_of};
 use le_io::Store;
 use lib_stream::RecordSource;
 use member_walk::Walk;
-use part_store::Parts;
+use fetch_storage::Parts;
 use pds_lib::Entry;
-use placing::Placement;
+use fetch_places::Placement;
 use std::alloc::Global;
 
 /// What is fetched, and where it goes.

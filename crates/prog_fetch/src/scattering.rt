@@ -3,7 +3,7 @@ ghost use Rattle.std.specs.Prelude.{◌≡◌, ◌+◌, ◌≤◌, ◌||◌, nat
 ghost use Rattle.le_io.specs.Counts.{WhereTold};
 ghost use Rattle.member_model.specs.Placing.{may_scatter, is_of_segment};
 ghost use Rattle.member_walk.specs.Walked.{IsWalked};
-ghost use Rattle.placing.specs.Over.{AreInOrder};
+ghost use Rattle.fetch_places.specs.Over.{AreInOrder};
 ghost use Rattle.prog_fetch.specs.Given.{IsPlacementOf};
 ghost use Rattle.prog_fetch.specs.Faults.{scatter_fault_of};
 ghost use Rattle.prog_fetch.specs.Scattering.{Places, PlacesSome, PlacesNext, PlacesAt, PlacedOver, GoesOn, AnswersNext, HasReason, are_heads, HasHeads};
@@ -14,7 +14,7 @@ use le_io::Store;
 use lib_stream::RecordSource;
 use member_walk::{Walk, WalkFault};
 use pds_lib::Entry;
-use placing::{Area, AreaFault, Placement, place_sections};
+use fetch_places::{Area, AreaFault, Placement, place_sections};
 use std::alloc::Global;
 
 /// What is placed, and over what.

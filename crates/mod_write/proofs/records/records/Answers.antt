@@ -1,5 +1,5 @@
 use Rattle.std.proofs.Common.{List, ℕ, All, sym, subst, ◌∙◌}
-use Rattle.segment_write.specs.Records.{IsStored}
+use Rattle.mod_segments.specs.Records.{IsStored}
 use Rattle.mod_write.proofs.Member.{written_whole, stored_whole}
 use Rattle.mod_write.proofs.records.records.Goals as goal
 

@@ -2,7 +2,7 @@ use Rattle.std.proofs.Common.{◌≡◌, ◌≤◌, ◌++◌, length, sym, subst
 use Rattle.std.proofs.lemmas.Result.{on_ok_weaker}
 use Rattle.linking_model.specs.Linked.{address_of, block}
 use Rattle.linking_model.specs.TableBytes.{entab_bytes}
-use Rattle.segment_write.specs.Writing.{HasPieces}
+use Rattle.mod_segments.specs.Writing.{HasPieces}
 use Rattle.relocate.specs.Listed.{table_of}
 use Rattle.relocate.specs.Ready.{AreSmall}
 use Rattle.relocate.proofs.Bounds.{are_small, few_entries}

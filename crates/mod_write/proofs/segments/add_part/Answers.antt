@@ -1,8 +1,8 @@
 use Rattle.std.proofs.Common.{◌++◌, sym, subst}
 use Rattle.std.proofs.lemmas.Result.{on_ok_weaker}
 use Rattle.member_model.specs.Written.{part_pieces}
-use Rattle.part_list.specs.Seen.{seen}
-use Rattle.segment_write.specs.Writing.{HasPieces}
+use Rattle.mod_parts.specs.Seen.{seen}
+use Rattle.mod_segments.specs.Writing.{HasPieces}
 use Rattle.mod_write.proofs.segments.add_part.Goals as goal
 
 pub returns-in-SegmentTable-clause-pieces : goal.returns-in-SegmentTable-clause-pieces

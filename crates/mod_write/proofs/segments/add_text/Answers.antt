@@ -2,7 +2,7 @@ use Rattle.std.proofs.Common.{◌++◌, sym, subst, ◌∙◌}
 use Rattle.std.proofs.lemmas.Result.{on_ok_weaker}
 use Rattle.linking_model.specs.Linked.{block}
 use Rattle.member_model.specs.Chunks.{part_items}
-use Rattle.segment_write.specs.Writing.{HasPieces}
+use Rattle.mod_segments.specs.Writing.{HasPieces}
 use Rattle.mod_write.proofs.Assembled.{section_long, section_text, pieces_by, text_pieces}
 use Rattle.mod_write.proofs.segments.add_text.Goals as goal
 

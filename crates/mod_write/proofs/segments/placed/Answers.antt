@@ -1,6 +1,6 @@
 use Rattle.std.proofs.Common.{◌∙◌}
-use Rattle.part_list.specs.Seen.{seen}
-use Rattle.segment_write.specs.declared.piece.PlacedPart.{PlacedPart}
+use Rattle.mod_parts.specs.Seen.{seen}
+use Rattle.mod_segments.specs.declared.piece.PlacedPart.{PlacedPart}
 use Rattle.mod_write.proofs.Ready.{is_part, ready_by}
 use Rattle.mod_write.proofs.segments.placed.Goals as goal
 

@@ -3,10 +3,10 @@ use Rattle.std.specs.Prelude.{flat_map}
 use Rattle.std.proofs.lemmas.Result.{IfOk-weaker}
 use Rattle.member_model.specs.Pieces.{Piece, ends_at}
 use Rattle.member_model.specs.Written.{part_pieces}
-use Rattle.part_list.specs.Seen.{seen}
-use Rattle.part_list.specs.declared.part.Part.{Part}
-use Rattle.part_list.specs.declared.part.Part.TheVariants.{SegmentTable}
-use Rattle.segment_write.specs.Writing.{HasPieces}
+use Rattle.mod_parts.specs.Seen.{seen}
+use Rattle.mod_parts.specs.declared.part.Part.{Part}
+use Rattle.mod_parts.specs.declared.part.Part.TheVariants.{SegmentTable}
+use Rattle.mod_segments.specs.Writing.{HasPieces}
 use Rattle.mod_write.proofs.Assembled.{parts_more, parts_whole}
 use Rattle.mod_write.proofs.segments.segment.Goals as goal
 

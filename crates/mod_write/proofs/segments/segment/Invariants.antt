@@ -1,8 +1,8 @@
 use Rattle.std.proofs.Common.{map, take}
 use Rattle.std.specs.Prelude.{flat_map}
 use Rattle.member_model.specs.Written.{part_pieces}
-use Rattle.part_list.specs.Seen.{seen}
-use Rattle.segment_write.specs.Writing.{IsReady, HasPieces}
+use Rattle.mod_parts.specs.Seen.{seen}
+use Rattle.mod_segments.specs.Writing.{IsReady, HasPieces}
 use Rattle.mod_write.proofs.segments.segment.Given as goal
 
 abbrev pub invariant-loop-part : goal.invariant-loop-part

@@ -1,6 +1,6 @@
 use Rattle.std.proofs.Common.{◌+◌, length, All, sym, ap, subst, arith}
 use Rattle.std.proofs.lemmas.List.Elements.{All-push}
-use Rattle.segment_write.specs.Records.{IsStored}
+use Rattle.mod_segments.specs.Records.{IsStored}
 use Rattle.mod_write.proofs.Assembled.{segments_more, segments_whole}
 use Rattle.mod_write.proofs.segments.segments.Goals as goal
 

@@ -1,6 +1,6 @@
 use Rattle.std.proofs.Common.{◌≡◌, map, All}
 use Rattle.std.specs.List.{range_with_len}
-use Rattle.segment_write.specs.Records.{IsStored}
+use Rattle.mod_segments.specs.Records.{IsStored}
 use Rattle.mod_write.specs.Written.{segment_bytes}
 use Rattle.mod_write.proofs.segments.segments.Given as goal
 

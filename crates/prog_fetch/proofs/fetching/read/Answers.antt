@@ -1,6 +1,6 @@
 use Rattle.std.proofs.Common.{rules, ◌≡◌, Err, ap, ◌∙◌}
 use Rattle.member_walk.specs.Walked.{Walked}
-use Rattle.part_store.specs.Kept.{empty_parts}
+use Rattle.fetch_storage.specs.Kept.{empty_parts}
 use Rattle.prog_fetch.specs.Reading.{HasHead, HasAll, IsOver, FindsFault}
 use Rattle.prog_fetch.proofs.Calls.{stays_on, none_failed_on, reason_on, same_reason, as_before, as_after}
 use Rattle.prog_fetch.proofs.Heads.{head_begins}

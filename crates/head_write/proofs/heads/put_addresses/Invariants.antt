@@ -1,9 +1,0 @@
-use Rattle.std.proofs.Common.{◌≡◌, ◌++◌, map, take}
-use Rattle.member_model.specs.Cuts.{together}
-use Rattle.part_list.specs.Seen.{seen}
-use Rattle.head_write.proofs.Summed.{address_bytes}
-use Rattle.head_write.proofs.heads.put_addresses.Given as goal
-
-abbrev pub invariant-loop-part : goal.invariant-loop-part
-invariant-loop-part l =
-    l.bytes.items ≡ l.fn.bytes.items ++ together (map (address_bytes l.list) (map seen (take l.part-index l.parts)))

@@ -1,5 +1,0 @@
-use Rattle.head_write.proofs.Summed.{after_near}
-use Rattle.head_write.proofs.notes.number_after.Goals as goal
-
-pub returns-clause-number : goal.returns-clause-number
-returns-clause-number c = after_near c.args.number c.args.records

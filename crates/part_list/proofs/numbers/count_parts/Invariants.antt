@@ -1,6 +1,0 @@
-use Rattle.std.proofs.Common.{◌≡◌, length, take}
-use Rattle.member_model.specs.Cuts.{together}
-use Rattle.part_list.proofs.numbers.count_parts.Given as goal
-
-abbrev pub invariant-loop-parts : goal.invariant-loop-parts
-invariant-loop-parts l = l.count ≡ length (together (take l.parts-index l.segments))

@@ -1,6 +1,0 @@
-use Rattle.std.proofs.Common.{◌≡◌, drop}
-use Rattle.placing.specs.Extents.{are_in_turn}
-use Rattle.placing.proofs.fitting.are_in_turn.Given as goal
-
-abbrev pub invariant-loop-extent : goal.invariant-loop-extent
-invariant-loop-extent l = are_in_turn l.end (drop l.extent-index l.extents) ≡ are_in_turn 0 l.extents
