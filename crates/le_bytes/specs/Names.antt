@@ -41,3 +41,11 @@ name_eq m n = bytes_eq m.0 n.0
 
 abbrev pub is_blank : Name → Bool
 is_blank n = bytes_eq n.0 blank_bytes
+
+-- `$PRIVATE`, under which private code is printed
+abbrev pub private_code_name : Name
+private_code_name = record { 0 = 91 ∷ 215 ∷ 217 ∷ 201 ∷ 229 ∷ 193 ∷ 227 ∷ 197 ∷ [] }
+
+-- `$BLNKCOM`, under which blank common is printed
+abbrev pub blank_common_name : Name
+blank_common_name = record { 0 = 91 ∷ 194 ∷ 211 ∷ 213 ∷ 210 ∷ 195 ∷ 214 ∷ 212 ∷ [] }

@@ -4,14 +4,21 @@ ghost use Rattle.std.specs.List.{list_all};
 ghost use Rattle.le_bytes.specs.Names.{is_name_text, may_begin_name, may_stand_in_name, code_at, padded, name_of_text, is_blank};
 
 use crate::codes::from_ascii;
+use std::hash::{Hash, Hasher};
 
 /// Eight EBCDIC characters, padded with blanks on the right. Names are ordered as bytes.
-#[derive(Clone, Copy, Debug, PartialEq, Eq, PartialOrd, Ord, Hash)]
+#[derive(Clone, Copy, Debug, PartialEq, Eq, PartialOrd, Ord)]
 pub struct Name(pub [u8; 8]);
 
 impl Name {
     /// The name of private code and of blank common: eight blanks.
     pub const BLANK: Name = Name([0x40; 8]);
+
+    /// The name under which private code is printed: `$PRIVATE`.
+    pub const PRIVATE_CODE: Name = Name([0x5B, 0xD7, 0xD9, 0xC9, 0xE5, 0xC1, 0xE3, 0xC5]);
+
+    /// The name under which blank common is printed: `$BLNKCOM`.
+    pub const BLANK_COMMON: Name = Name([0x5B, 0xC2, 0xD3, 0xD5, 0xD2, 0xC3, 0xD6, 0xD4]);
 
     /// The name that a text gives. None exactly where the text is not 1 to 8 of A-Z, 0-9, `$`, `#`,
     /// `@` and `_`, or begins with a digit.
@@ -31,6 +38,21 @@ impl Name {
         ensures { result ≡ is_blank self.now }
     {
         self.0 == [0x40; 8]
+    }
+}
+
+/// The eight bytes are written at once.
+impl Hash for Name {
+    ghost use Rattle.std.proofs.Common.{rules};
+    ghost use Rattle.std.specs.Cmp.Rules.{hashing};
+    ghost use Rattle.le_bytes.specs.Hashed.{written};
+
+    ghost hash_input = { written };
+
+    ghost respects_eq = { Prim.search (hashing, rules) };
+
+    fn hash<H: Hasher>(&self, state: &mut H) {
+        state.write(&self.0);
     }
 }
 
