@@ -3,7 +3,7 @@ use Rattle.std.proofs.Common.{arith, ◌≡◌, ℕ, ◌+◌, ◌<◌, ◌≤◌
 use Rattle.std.specs.Option.{option_map, option_and_then, option_map_or}
 use Rattle.load_recs.specs.declared.items.SymbolItem.{SymbolItem}
 use Rattle.linking_model.specs.Scattered.{Area as Left, Found, found, scattered}
-use Rattle.member_model.specs.Symbols.{is_section}
+use Rattle.member_model.specs.Symbols.{is_section, printed_name}
 use Rattle.member_model.specs.Placing.{addresses_over, homeless, sections_of}
 use Rattle.std.proofs.lemmas.Grind.{common_steps}
 use Rattle.fetch_places.specs.declared.placement.Area.{Area}
@@ -41,7 +41,7 @@ first_name : (left : List Left) (x : SymbolItem) (xs : List SymbolItem) (f : Fou
 unfolding homeless
 first_name left x xs f is = rw is refl
 
-no_home : (left : List Left) (x : SymbolItem) (xs : List SymbolItem) → found left x.length ≡ None → homeless left (x ∷ xs) ≡ Some x.name
+no_home : (left : List Left) (x : SymbolItem) (xs : List SymbolItem) → found left x.length ≡ None → homeless left (x ∷ xs) ≡ Some (printed_name x)
 unfolding homeless
 no_home left x xs is = rw is refl
 
@@ -58,7 +58,7 @@ places areas left items rest addresses x f section is so_far =
     }
 
 pub finds_no_room : (areas left : List Left) (items rest : List SymbolItem) (addresses : List ℕ) (x : SymbolItem) → is_section x ≡ true
-    → found left x.length ≡ None → IsPlacing areas left items (x ∷ rest) addresses → homeless areas (sections_of items) ≡ Some x.name
+    → found left x.length ≡ None → IsPlacing areas left items (x ∷ rest) addresses → homeless areas (sections_of items) ≡ Some (printed_name x)
 finds_no_room areas left items rest addresses x section is so_far =
     let names : homeless areas (sections_of items) ≡ homeless left (x ∷ sections_of rest) = rw section at so_far.names in
     names ∙ no_home left x (sections_of rest) is
@@ -99,7 +99,7 @@ places_at areas items i d left lent after addresses address within section same 
 
 pub finds_no_room_at : (areas : List Left) (items : List SymbolItem) (i : ℕ) (d : SymbolItem) (left lent after : List Area) (addresses : List ℕ) → i < length items
     → is_section (get_or items i d) ≡ true → lent ≡ left → TakesRoom lent (get_or items i d).length after None
-    → IsPlacingFrom areas (left_of left) items i addresses → homeless areas (sections_of items) ≡ Some (get_or items i d).name
+    → IsPlacingFrom areas (left_of left) items i addresses → homeless areas (sections_of items) ≡ Some (printed_name (get_or items i d))
 finds_no_room_at areas items i d left lent after addresses within section same takes so_far =
     finds_no_room areas (left_of left) items (drop (i + 1) items) addresses (get_or items i d) section
     (subst (λ xs. found (left_of xs) (get_or items i d).length ≡ None) same takes)

@@ -5,7 +5,7 @@ ghost use Rattle.fetch_places.specs.Extents.{Fits};
 ghost use Rattle.fetch_places.specs.Over.{IsOver, IsHomeless, AreInOrder};
 ghost use Rattle.fetch_places.specs.Room.{has_room, filled, TakesRoom};
 
-use crate::kinds::is_section;
+use crate::kinds::{is_section, printed_name};
 use crate::placement::{Area, Placement};
 use le_bytes::{Items, Name};
 use load_recs::SymbolItem;
@@ -14,7 +14,8 @@ use std::alloc::{AllocError, AllocFailed, Global};
 /// Why sections were not placed.
 #[derive(Clone, Copy, Debug, PartialEq, Eq)]
 pub enum AreaFault {
-    /// The section of this name fits in none of the areas.
+    /// The section of this name fits in none of the areas. Private code and blank common have the names
+    /// under which they are printed.
     NoStorage(Name),
     /// Want of memory.
     Memory,
@@ -44,7 +45,7 @@ impl<T: Drop> From<AllocFailed<T>> for AreaFault {
 /// given, in which it fits from the next multiple of 8 on. As many steps as sections times areas.
 ///
 /// # Errors
-/// `NoStorage`: the first section that fits in none of the areas. `Memory`: want of memory.
+/// `NoStorage`: the first section that fits in none of the areas, by its printed name. `Memory`: want of memory.
 pub fn place_sections(
     alloc: Global,
     items: &[SymbolItem],
@@ -59,7 +60,7 @@ pub fn place_sections(
         if is_section(item.kind) {
             match take_room(&mut left, item.length) {
                 Some(address) => addresses.push(address)?,
-                None => return Err(AreaFault::NoStorage(item.name)),
+                None => return Err(AreaFault::NoStorage(printed_name(item))),
             }
         }
     }

@@ -1,12 +1,24 @@
 //! Kinds of symbols.
 ghost use Rattle.std.specs.Prelude.{◌≡◌};
-ghost use Rattle.member_model.specs.Symbols.{is_section_kind};
+ghost use Rattle.member_model.specs.Symbols.{is_section_kind, printed_name};
 
-use load_recs::SymbolKind;
+use le_bytes::Name;
+use load_recs::{SymbolItem, SymbolKind};
 
 /// Whether the kind is that of a section: SD, PC or CM.
 pub fn is_section(kind: SymbolKind) -> bool
     ensures { result ≡ is_section_kind kind }
 {
     matches!(kind, SymbolKind::Sd | SymbolKind::Pc | SymbolKind::Cm)
+}
+
+/// The name under which a section is printed.
+pub(crate) fn printed_name(section: &SymbolItem) -> Name
+    ensures { result ≡ printed_name section.now }
+{
+    match (section.name.is_blank(), section.kind) {
+        (true, SymbolKind::Sd | SymbolKind::Pc) => Name::PRIVATE_CODE,
+        (true, _) => Name::BLANK_COMMON,
+        (false, _) => section.name,
+    }
 }

@@ -64,7 +64,7 @@ fn entry_answer(
 fn is_other_form(entry: &Entry) -> bool
     ensures { result ≡ is_other_form entry.now }
 {
-    entry.attr / 32 % 2 == 1 || entry.attr / 4 % 2 == 1
+    entry.is_overlay() || entry.is_scatter()
 }
 
 /// What is printed of the member of this name or alias, with the module at `origin`, or why it is refused.

@@ -44,13 +44,13 @@ pub record Describes (P : Laid) (scatter : Bool) (e : Entry) : Type 0 where
   pub attr : e.attr ≡ attribute P scatter
   pub length : e.length ≡ module_length P
 
-overlay-bit : (a b : Bool) (n : ℕ) → n ≡ (if a then 32 else 0) + (if b then 4 else 0) → (n / 32 % 2 == 1) ≡ a
+pub overlay-bit : (a b : Bool) (n : ℕ) → n ≡ (if a then 32 else 0) + (if b then 4 else 0) → (n / 32 % 2 == 1) ≡ a
 overlay-bit true true n e = rw (e) refl
 overlay-bit true false n e = rw (e) refl
 overlay-bit false true n e = rw (e) refl
 overlay-bit false false n e = rw (e) refl
 
-scatter-bit : (a b : Bool) (n : ℕ) → n ≡ (if a then 32 else 0) + (if b then 4 else 0) → (n / 4 % 2 == 1) ≡ b
+pub scatter-bit : (a b : Bool) (n : ℕ) → n ≡ (if a then 32 else 0) + (if b then 4 else 0) → (n / 4 % 2 == 1) ≡ b
 scatter-bit true true n e = rw (e) refl
 scatter-bit true false n e = rw (e) refl
 scatter-bit false true n e = rw (e) refl

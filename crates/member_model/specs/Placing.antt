@@ -6,7 +6,7 @@ use Rattle.pds_directory.specs.declared.entry.Entry.{Entry}
 use Rattle.load_recs.specs.Forms.{is_one_of}
 use Rattle.load_recs.specs.declared.items.SymbolItem.{SymbolItem}
 use Rattle.linking_model.specs.Scattered.{Area, found, scattered}
-use Rattle.member_model.specs.Symbols.{is_overlay_member, is_scatter_member, is_section}
+use Rattle.member_model.specs.Symbols.{is_overlay_member, is_scatter_member, is_section, printed_name}
 use Rattle.member_model.specs.Facts.{facts}
 use Rattle.member_model.specs.Faults.{is_incomplete}
 use Rattle.member_model.specs.FirstBad.{Fault, first_bad}
@@ -31,10 +31,10 @@ sections_of symbols = filter is_section symbols
 abbrev pub addresses_over : List Area → List SymbolItem → Option (List ℕ)
 addresses_over areas symbols = scattered areas (map (λ x. x.length) (sections_of symbols))
 
--- the first of these sections that fits in none of the areas
+-- the first of these sections that fits in none of the areas, by its printed name
 unfoldable pub homeless : List Area → List SymbolItem → Option Name
 homeless areas [] = None
-homeless areas (x ∷ xs) = option_map_or (λ f. homeless f.left xs) (found areas x.length) (Some x.name)
+homeless areas (x ∷ xs) = option_map_or (λ f. homeless f.left xs) (found areas x.length) (Some (printed_name x))
 
 -- ---- faults that come before want of storage
 

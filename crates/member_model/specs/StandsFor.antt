@@ -3,6 +3,7 @@
 use Rattle.std.specs.Prelude.{◌≡◌, ℕ, ◌^◌, ◌<◌, ◌≤◌, Bool, true, false, List, [], ◌∷◌, map, length, Some, None}
 use Rattle.std.specs.List.{AllByRecursion}
 use Rattle.le_bytes.specs.declared.name.Name.{Name}
+use Rattle.pds_directory.specs.Attributes.{has_overlay, has_scatter}
 use Rattle.pds_directory.specs.declared.entry.Entry.{Entry}
 use Rattle.pds_lib.specs.declared.member.AliasAt.{AliasAt}
 use Rattle.pds_lib.specs.declared.member.Member.{Member}
@@ -20,7 +21,7 @@ use Rattle.member_model.specs.Starting.{start_fault}
 use Rattle.member_model.specs.ByteRun.{Run, byte_run}
 use Rattle.member_model.specs.AfterFailure.{SameBytes}
 use Rattle.member_model.specs.Placing.{is_origin}
-use Rattle.member_model.specs.Written.{Naming, attribute}
+use Rattle.member_model.specs.Written.{Naming}
 
 -- ---- events
 
@@ -67,13 +68,15 @@ abbrev pub AreAreas : ℕ → List Area → Type 0
 AreAreas from [] = from ≤ 16777215
 AreAreas from (x ∷ rest) = (from ≤ x.mark) × (x.mark < x.end) × AreAreas x.end rest
 
--- the member stands for the program, which was linked with or without scatter items and named so
+-- the member stands for the program, which was linked with or without scatter items and named so; of the attribute only
+-- the bits of overlay and scatter count
 pub record StandsFor (P : Laid) (scatter : Bool) (who : Naming) (m : Member) : Type 0 where
   pub good : AllByRecursion (λ e. IsGood e m.records) (entries_for m)
   pub name : m.name ≡ who.name
   pub aliases : map (λ (a : AliasAt). a.name) m.aliases ≡ map (λ (x : Name × Point). x.0) who.aliases
   pub length : m.length ≡ module_length P
-  pub attribute : m.attr ≡ attribute P scatter
+  pub overlay_bit : has_overlay m.attr ≡ is_overlay P.tree
+  pub scatter_bit : has_scatter m.attr ≡ scatter
   pub in_block : (at : ℕ) → is_origin (module_length P) at ≡ true
       → StandsAt P who m (block P at) (λ e. fetched e m.records at)
   pub over_areas : scatter ≡ true → is_overlay P.tree ≡ false → (areas : List Area) → AreAreas 0 areas → (addresses : List ℕ)

@@ -2,7 +2,7 @@
 -- flag of a relocation item follow GC28-6538; the items are this project's profile.
 use Rattle.std.specs.Prelude.{ℕ, ◌+◌, ◌-◌, ◌/◌, ◌%◌, Bool, true, false, ◌&&◌, ◌==◌, nat_lt, if◌then◌else◌, List, map, filter, take, slice_get, count_by, Option, None}
 use Rattle.std.specs.Option.{option_map_or}
-use Rattle.le_bytes.specs.Names.{is_blank, name_eq}
+use Rattle.le_bytes.specs.Names.{is_blank, name_eq, private_code_name, blank_common_name}
 use Rattle.le_bytes.specs.declared.name.Name.{Name}
 use Rattle.sym_mod.specs.Reserved.{is_reserved}
 use Rattle.load_recs.specs.Relocations.{field_kind as kind_of_flag, is_minus as is_minus_flag}
@@ -10,17 +10,18 @@ use Rattle.load_recs.specs.declared.items.SymbolKind.{SymbolKind}
 use Rattle.load_recs.specs.declared.items.SymbolKind.TheVariants.{Sd, Er, Lr, Pc, Cm, Pr, Null, Wx}
 use Rattle.load_recs.specs.declared.items.SymbolItem.{SymbolItem}
 use Rattle.load_recs.specs.declared.items.RldItem.{RldItem}
+use Rattle.pds_directory.specs.Attributes.{has_overlay, has_scatter}
 use Rattle.pds_directory.specs.declared.entry.Entry.{Entry}
 
 -- ---- the attribute
 
--- the attribute has X'20'
+-- the entry is that of a member in overlay format
 abbrev pub is_overlay_member : Entry → Bool
-is_overlay_member e = e.attr / 32 % 2 == 1
+is_overlay_member e = has_overlay e.attr
 
--- the attribute has X'04'
+-- the entry is that of a member in scatter format
 abbrev pub is_scatter_member : Entry → Bool
-is_scatter_member e = e.attr / 4 % 2 == 1
+is_scatter_member e = has_scatter e.attr
 
 -- ---- kinds
 
@@ -86,6 +87,11 @@ is_outside symbol = option_map_or (λ x. is_outside_kind x.kind) symbol false
 -- a section without a name: an SD whose name is blank is one, as any PC
 abbrev pub is_private : SymbolItem → Bool
 is_private x = is_text_kind x.kind && is_blank x.name
+
+-- the name under which a section is printed: private code and blank common have names of their own there
+abbrev pub printed_name : SymbolItem → Name
+printed_name x =
+    if is_blank x.name then (if is_text_kind x.kind then private_code_name else blank_common_name) else x.name
 
 -- an SD of this name: a table of overlay is one
 abbrev pub is_sd_named : Name → SymbolItem → Bool

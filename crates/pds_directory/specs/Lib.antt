@@ -1,3 +1,4 @@
+pub mod Attributes
 pub mod Parts
 pub mod Answers
 pub mod Header

@@ -1,4 +1,7 @@
 //! Directory entries.
+ghost use Rattle.std.specs.Prelude.{◌≡◌};
+ghost use Rattle.pds_directory.specs.Attributes.{has_overlay, has_scatter};
+
 use le_bytes::Name;
 
 /// An entry of the directory: a member, or another name of one.
@@ -17,6 +20,22 @@ pub struct Entry {
     pub entry: u32,
     /// The item number of the section of the entry point; 0 in a library of cards.
     pub entry_section: u16,
+}
+
+impl Entry {
+    /// Whether the load module is in overlay format.
+    pub fn is_overlay(&self) -> bool
+        ensures { result ≡ has_overlay self.now.attr }
+    {
+        self.attr / 32 % 2 == 1
+    }
+
+    /// Whether the load module is in scatter format.
+    pub fn is_scatter(&self) -> bool
+        ensures { result ≡ has_scatter self.now.attr }
+    {
+        self.attr / 4 % 2 == 1
+    }
 }
 
 /// A part of an image.

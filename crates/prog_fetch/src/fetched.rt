@@ -1,7 +1,7 @@
 //! What a fetch gives.
+use fetch_storage::Part;
 use le_bytes::Items;
 use load_recs::{NoteItem, RldItem, SymbolItem};
-use fetch_storage::Part;
 
 /// A member in storage before any event: of an overlay member the root, of any other all.
 #[derive(Debug, Drop)]

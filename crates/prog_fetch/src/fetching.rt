@@ -10,12 +10,12 @@ use crate::fault::FetchFault;
 use crate::fetched::Fetched;
 use crate::loading::finish;
 use crate::reading::{Task, take_head, take_text};
+use fetch_places::Placement;
+use fetch_storage::Parts;
 use le_io::Store;
 use lib_stream::RecordSource;
 use member_walk::Walk;
-use fetch_storage::Parts;
 use pds_lib::Entry;
-use fetch_places::Placement;
 use std::alloc::Global;
 
 /// Fetches a member into storage where it is placed: of an overlay member the head records and

@@ -10,9 +10,9 @@ mod reading;
 mod scattering;
 
 pub use fault::{FetchFault, ScatterFault};
+pub use fetch_places::{Area, Placement, place_block};
+pub use fetch_storage::Part;
 pub use fetched::Fetched;
 pub use fetching::fetch;
 pub use laws::placed_members_fit;
-pub use fetch_storage::Part;
-pub use fetch_places::{Area, Placement, place_block};
 pub use scattering::place_scatter;

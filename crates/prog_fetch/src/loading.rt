@@ -12,12 +12,12 @@ ghost use Rattle.prog_fetch.specs.Reading.{IsLaid, IsLaidOf, Completes, AnswersA
 use crate::fault::FetchFault;
 use crate::fetched::Fetched;
 use crate::reading::Task;
+use fetch_places::fits;
+use fetch_storage::Parts;
 use le_bytes::{Items, Memory, RecWhat};
 use load_recs::RldItem;
 use member_walk::{SegmentField, Walk, WalkParts};
-use fetch_storage::Parts;
 use pds_lib::Entry;
-use fetch_places::fits;
 use std::alloc::{AllocError, Global};
 
 /// What is fetched, or why not, once all records were read and their text is laid.

@@ -7,12 +7,12 @@ ghost use Rattle.prog_fetch.specs.Reading.{HasHead, HasText, IsLaidOf, LaysNext,
 ghost use Rattle.prog_fetch.specs.Sources.{seen, Stays, HasReason};
 
 use crate::fault::{FetchFault, fault_of};
+use fetch_places::Placement;
+use fetch_storage::Parts;
 use le_io::Store;
 use lib_stream::RecordSource;
 use member_walk::Walk;
-use fetch_storage::Parts;
 use pds_lib::Entry;
-use fetch_places::Placement;
 use std::alloc::Global;
 
 /// What is fetched, and where it goes.

@@ -10,11 +10,11 @@ ghost use Rattle.prog_fetch.specs.Scattering.{Places, PlacesSome, PlacesNext, Pl
 ghost use Rattle.prog_fetch.specs.Sources.{seen, Stays};
 
 use crate::fault::{ScatterFault, scatter_fault_of};
+use fetch_places::{Area, AreaFault, Placement, place_sections};
 use le_io::Store;
 use lib_stream::RecordSource;
 use member_walk::{Walk, WalkFault};
 use pds_lib::Entry;
-use fetch_places::{Area, AreaFault, Placement, place_sections};
 use std::alloc::Global;
 
 /// What is placed, and over what.
@@ -68,7 +68,7 @@ pub fn place_scatter<S: Store, R: RecordSource<S>>(
 fn may_scatter(e: &Entry) -> bool
     ensures { result ≡ may_scatter e.now }
 {
-    e.attr / 4 % 2 == 1 && e.attr / 32 % 2 == 0
+    e.is_scatter() && !e.is_overlay()
 }
 
 /// Places a member that may be scattered.

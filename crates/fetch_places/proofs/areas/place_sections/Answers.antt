@@ -15,6 +15,7 @@ pub returns-in-None-clause-placed : goal.returns-in-None-clause-placed
 returns-in-None-clause-placed c =
     finds_no_room_at (left_of c.args.areas.now) c.args.items.now c.loop-item.item-index _ c.loop-item.left.items c.deref_mut.result.now c.take_room.new.areas c.loop-item.addresses.items
     c.loop-item-test.true (sym c.if-is_section.ensures) c.deref_mut.ensures.value c.in-None.ensures c.loop-item.invariant
+    ∙ ap (λ n. Some n) (sym c.printed_name.ensures)
 
 pub loop-item-preserved : goal.loop-item-preserved
 loop-item-preserved c =
