@@ -1,3 +1,4 @@
 pub mod Codes
 pub mod Hashed
 pub mod Names
+pub mod Numbers

@@ -12,6 +12,7 @@ mod numbers;
 mod place;
 mod record_what;
 mod refusal;
+mod rounding;
 #[cfg(test)]
 mod tests;
 mod word_what;
@@ -27,4 +28,5 @@ pub use numbers::{num16, num24, num32, put16, put24, put32};
 pub use place::Place;
 pub use record_what::{EventWhat, PlaceWhat, RecWhat, StartWhat};
 pub use refusal::{Counted, Refusal, Spot, SymbolWhat};
+pub use rounding::{modulus, round8};
 pub use word_what::WordWhat;
