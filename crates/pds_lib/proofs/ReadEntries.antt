@@ -5,6 +5,7 @@ use Rattle.std.specs.Str.{bytes_eq}
 use Rattle.std.specs.List.{AllByRecursion}
 use Rattle.std.proofs.lemmas.Bool.{leb-true, ltb-false, eqb-true}
 use Rattle.std.proofs.lemmas.List.{length-take, length-take-le, length-drop}
+use Rattle.le_bytes.specs.Numbers.{AreBytes}
 use Rattle.le_bytes.specs.declared.name.Name.{Name}
 use Rattle.le_bytes.specs.declared.library_fault.LibFault.{LibFault}
 use Rattle.le_bytes.specs.declared.library_fault.LibFault.TheVariants.{BadDirectory, BadEntry}
@@ -46,9 +47,6 @@ neither true b e = absurd cc
 neither false b e = (refl, e)
 
 -- ---- bytes
-
-abbrev pub AreBytes : List ℕ → Type 0
-AreBytes xs = AllByRecursion (λ (b : ℕ). b < 256) xs
 
 pub are_bytes : (xs : List ℕ) → ((i : ℕ) → get_or xs i 0 < 256) → AreBytes xs
 are_bytes [] each = tt

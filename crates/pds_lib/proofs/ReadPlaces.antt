@@ -18,7 +18,8 @@ use Rattle.pds_directory.specs.Places.{width, record_at, has_length, may_stand, 
 use Rattle.pds_lib.specs.Contents.{Contents}
 use Rattle.pds_lib.specs.Sound.{IsRecord}
 use Rattle.pds_directory.proofs.Halving.{both_true}
-use Rattle.pds_lib.proofs.ReadEntries.{then_ok, AreBytes, two_fit, four_fit, part_long}
+use Rattle.le_bytes.specs.Numbers.{AreBytes}
+use Rattle.pds_lib.proofs.ReadEntries.{then_ok, two_fit, four_fit, part_long}
 
 -- ---- one record
 

@@ -8,6 +8,7 @@ use Rattle.std.proofs.lemmas.Bool.Decides.{nat_tests}
 use Rattle.std.proofs.lemmas.Slice.Eq.{bytes_eq-Decides}
 use Rattle.std.proofs.lemmas.List.{length-map}
 use Rattle.std.proofs.lemmas.List.Sums.{sum_by-cons}
+use Rattle.le_bytes.specs.Numbers.{AreBytes}
 use Rattle.le_bytes.specs.declared.name.Name.{Name}
 use Rattle.le_bytes.specs.Names.{name_eq}
 use Rattle.le_bytes.specs.declared.library_fault.LibFault.TheVariants.{BadEntry}
@@ -26,7 +27,7 @@ use Rattle.pds_lib.specs.Sound.{HasData, HasMain, IsHeld, IsSound}
 use Rattle.pds_directory.proofs.Halving.{both_true}
 use Rattle.pds_lib.proofs.Halving.{below_trans, same_not_below, ascends_tail}
 use Rattle.pds_lib.proofs.Members.{find-map, ascends-map, owner_low}
-use Rattle.pds_lib.proofs.ReadEntries.{bind_ok, then_ok, AreBytes, IsListed, IsListing, listing_holds}
+use Rattle.pds_lib.proofs.ReadEntries.{bind_ok, then_ok, IsListed, IsListing, listing_holds}
 use Rattle.pds_lib.proofs.ReadPlaces.{ArePlaces, places_hold, run_long, member_records}
 use Rattle.pds_lib.proofs.ReadCount.{IsAmong, weight, weights, weights_total, count, count_none, few_in, lone, end_is, refuted}
 

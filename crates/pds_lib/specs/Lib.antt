@@ -5,3 +5,4 @@ pub mod Forms
 pub mod Grammar
 pub mod Stow
 pub mod Rows
+pub mod Laws

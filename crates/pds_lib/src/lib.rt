@@ -5,6 +5,7 @@
 //! its records.
 #![tactic(auto)]
 
+mod laws;
 mod library;
 mod member;
 mod reading;
@@ -13,6 +14,7 @@ mod set;
 mod stow;
 mod table;
 
+pub use laws::{empty_libraries_are_sound, read_libraries_are_sound, stows_keep_libraries_sound};
 pub use library::Library;
 pub use member::{AliasAt, Member, StowFault};
 pub use pds_directory::{
