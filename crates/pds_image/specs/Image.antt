@@ -49,3 +49,7 @@ header_bytes lib =
 -- header, directory, and the members in the order of their names
 abbrev pub written : Contents → List ℕ
 written lib = header_bytes lib ++ directory_bytes lib ++ flat_map (body_bytes lib) (entries_of lib)
+
+-- the most bytes that an image may have
+abbrev pub most_bytes : ℕ
+most_bytes = 67108864

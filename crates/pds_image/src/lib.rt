@@ -3,11 +3,13 @@
 #![tactic(auto)]
 
 mod directory;
+mod laws;
 mod length;
 mod members;
 mod numbers;
 mod writing;
 
+pub use laws::written_libraries_are_read;
 pub use length::image_length;
 pub use writing::image;
 

@@ -6,7 +6,7 @@ ghost use Rattle.le_bytes.specs.Names.{name_eq};
 ghost use Rattle.le_bytes.specs.declared.name.Name.{Name};
 ghost use Rattle.pds_lib.specs.Contents.{entries_of, records_of};
 ghost use Rattle.pds_image.specs.Spelling.{record_bytes};
-ghost use Rattle.pds_image.specs.Image.{added, records_in, first_from, body_bytes};
+ghost use Rattle.pds_image.specs.Image.{added, records_in, first_from, body_bytes, most_bytes};
 ghost use Rattle.pds_image.specs.Firsts.{first_with};
 
 use crate::numbers::{put2, put4};
@@ -28,7 +28,7 @@ pub(crate) fn added(library: &Library, e: &Entry) -> u64
 }
 
 pub(crate) fn count_records(library: &Library) -> u64
-    requires { records_in library.now (entries_of library.now) ≤ 67108864 }
+    requires { records_in library.now (entries_of library.now) ≤ most_bytes }
     ensures { result ≡ records_in library.now (entries_of library.now) }
 {
     let mut total = 0;
@@ -53,7 +53,7 @@ pub(crate) fn first_records(
     alloc: Global,
     library: &Library,
 ) -> Result<HashMap<Name, u64>, AllocError>
-    requires { records_in library.now (entries_of library.now) ≤ 67108864 }
+    requires { records_in library.now (entries_of library.now) ≤ most_bytes }
     ensures { IfOk result (λ m. (n : Name) → get name_eq m n ≡ first_from 1 library.now (entries_of library.now) n) }
 {
     let mut firsts = HashMap::new(alloc);

@@ -3,7 +3,7 @@ ghost use Rattle.std.specs.Prelude.{◌≡◌, ◌≤◌, ◌/◌, ◌++◌, Ok,
 ghost use Rattle.pds_lib.specs.Contents.{entries_of};
 ghost use Rattle.pds_image.specs.Spelling.{version_byte, kind_byte};
 ghost use Rattle.pds_lib.specs.Grammar.{library_of};
-ghost use Rattle.pds_image.specs.Image.{records_in, directory_bytes, header_bytes, written};
+ghost use Rattle.pds_image.specs.Image.{records_in, directory_bytes, header_bytes, most_bytes, written};
 
 use crate::directory::directory_bytes;
 use crate::members::{count_records, first_records, put_bodies};
@@ -35,7 +35,7 @@ fn kind_byte(kind: LibKind) -> u8
 
 #[tactic(auto, unfolding(crate::specs::Image::header_bytes))]
 fn put_header(out: &mut Vec<u8>, library: &Library, blocks: usize) -> Result<(), AllocError>
-    requires records { records_in library.now (entries_of library.now) ≤ 67108864 }
+    requires records { records_in library.now (entries_of library.now) ≤ most_bytes }
     requires blocks { blocks ≡ length (directory_bytes library.now) / 256 }
     ensures { OnOk result (out.new.items ≡ out.old.items ++ header_bytes library.now) }
 {
@@ -56,7 +56,7 @@ fn put_header(out: &mut Vec<u8>, library: &Library, blocks: usize) -> Result<(),
 /// # Errors
 /// Want of memory.
 pub fn image(library: &Library, alloc: Global) -> Result<Vec<u8>, Memory>
-    requires { length (written library.now) ≤ 67108864 }
+    requires { length (written library.now) ≤ most_bytes }
     ensures value { IfOk result (λ v. v.items ≡ written library.now) }
     ensures again { IfOk result (λ v. library_of v.items ≡ Ok library.now) }
 {
