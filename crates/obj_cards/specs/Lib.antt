@@ -5,3 +5,4 @@ pub mod Txt
 pub mod Rld
 pub mod End
 pub mod Cards
+pub mod Flags

@@ -1,4 +1,8 @@
 //! One card of the input and what stands in it.
+ghost use Rattle.std.specs.Prelude.{◌≡◌, ◌≤◌};
+ghost use Rattle.obj_cards.specs.Flags.{field_length, is_branch, is_minus};
+ghost use Rattle.obj_cards.specs.Rld.{is_shared};
+
 use le_bytes::Name;
 
 /// What an item of the external symbol dictionary is.
@@ -48,7 +52,13 @@ impl EsdItem {
     };
 }
 
+/// What stands in the places that are not in use.
 impl Default for EsdItem {
+    ghost use Rattle.std.specs.Prelude.{◌≡◌};
+    ghost use Rattle.obj_cards.specs.Esd.{unused_esd};
+
+    ghost is_default = { λ v. v ≡ unused_esd };
+
     fn default() -> EsdItem {
         EsdItem::UNUSED
     }
@@ -98,7 +108,13 @@ impl TxtCard {
     };
 }
 
+/// What stands in the places that are not in use.
 impl Default for TxtCard {
+    ghost use Rattle.std.specs.Prelude.{◌≡◌};
+    ghost use Rattle.obj_cards.specs.Txt.{unused_txt_card};
+
+    ghost is_default = { λ v. v ≡ unused_txt_card };
+
     fn default() -> TxtCard {
         TxtCard::UNUSED
     }
@@ -126,9 +142,45 @@ impl CardRld {
         flag: 0,
         address: 0,
     };
+
+    /// Whether the constant is of V-type: a branch.
+    pub fn is_branch(&self) -> bool
+        ensures { result ≡ is_branch self.now.flag }
+    {
+        self.flag / 16 == 1
+    }
+
+    /// The length of the constant in bytes, 1 to 4.
+    pub fn field_length(&self) -> u8
+        ensures value { result ≡ field_length self.now.flag }
+        ensures some { 1 ≤ result }
+        ensures most { result ≤ 4 }
+    {
+        self.flag / 4 % 4 + 1
+    }
+
+    /// Whether the term is subtracted.
+    pub fn is_minus(&self) -> bool
+        ensures { result ≡ is_minus self.now.flag }
+    {
+        self.flag / 2 % 2 == 1
+    }
+
+    /// Whether the next item has the same pointers, which the card omits.
+    pub fn shares_pointers(&self) -> bool
+        ensures { result ≡ is_shared self.now.flag }
+    {
+        self.flag & 0x01 == 0x01
+    }
 }
 
+/// What stands in the places that are not in use.
 impl Default for CardRld {
+    ghost use Rattle.std.specs.Prelude.{◌≡◌};
+    ghost use Rattle.obj_cards.specs.Rld.{unused_rld};
+
+    ghost is_default = { λ v. v ≡ unused_rld };
+
     fn default() -> CardRld {
         CardRld::UNUSED
     }

@@ -2,7 +2,7 @@
 ghost use Rattle.std.specs.Prelude.{◌≡◌, ◌+◌, ◌<◌, ◌≤◌, ◌++◌, length, take, IfOk, IfErr, Some, None, Ok, Err, is_some, if◌then◌else◌};
 ghost use Rattle.obj_cards.specs.Columns.{card_with};
 ghost use Rattle.obj_cards.specs.Faults.{filled_card};
-ghost use Rattle.obj_cards.specs.Rld.{IsCardRld, IsRldCard, field_bytes, is_rld_flag, is_shared, pointer_bytes, pointers_after, rld_bytes, rld_card, rld_items, rld_text, rld_with, unused_rld_card, with_first};
+ghost use Rattle.obj_cards.specs.Rld.{IsCardRld, IsRldCard, field_bytes, is_rld_flag, pointer_bytes, pointers_after, rld_bytes, rld_card, rld_items, rld_text, rld_with, unused_rld_card, with_first};
 
 use crate::card::{CardRld, RldCard};
 use crate::fault::CardFault;
@@ -60,18 +60,11 @@ fn read_items(bytes: &[u8], card: &mut RldCard) -> Result<(), CardFault>
 fn pointers_after(item: &CardRld) -> Option<(u32, u32)>
     ensures { result ≡ pointers_after item.now }
 {
-    if is_shared(item.flag) {
+    if item.shares_pointers() {
         Some((item.r, item.p))
     } else {
         None
     }
-}
-
-/// Whether the next item has the pointers of the item with this flag.
-fn is_shared(flag: u8) -> bool
-    ensures { result ≡ is_shared flag }
-{
-    flag & 0x01 == 0x01
 }
 
 /// Whether the flag tells one of the four kinds of term, and a minus sign of none but an A-type.
@@ -139,7 +132,7 @@ pub(crate) fn write_rld(c: &RldCard) -> [u8; 80]
     for item in items {
         end = put_pointers(&mut body, end, omitted, item);
         end = put_field(&mut body, end, item);
-        omitted = is_shared(item.flag);
+        omitted = item.shares_pointers();
     }
     let mut head = blank_head(RLD);
     put16(&mut head, 10, end as u32);
