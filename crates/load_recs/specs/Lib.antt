@@ -1,6 +1,7 @@
 pub mod Faults
 pub mod Forms
 pub mod Items
+pub mod Kinds
 pub mod ItemBytes
 pub mod Relocations
 pub mod Records

@@ -1,6 +1,6 @@
 -- Reading relocation items one after the other. After an item with bit 7 of its flag on, the next is
 -- its flag and address alone and has the same numbers.
-use Rattle.std.specs.Prelude.{ℕ, ◌/◌, ◌%◌, Bool, false, not, ◌&&◌, ◌||◌, ◌==◌, if◌then◌else◌, List, [], ◌∷◌, fold, length, Option, Some, None}
+use Rattle.std.specs.Prelude.{ℕ, ◌+◌, ◌/◌, ◌%◌, Bool, false, not, ◌&&◌, ◌||◌, ◌==◌, nat_lt, if◌then◌else◌, List, [], ◌∷◌, fold, length, Option, Some, None}
 use Rattle.std.specs.List.{list_any}
 use Rattle.byteorder.specs.Endian.{big_number}
 use Rattle.load_recs.specs.Forms.{is_one_of}
@@ -23,6 +23,22 @@ is_minus flag = flag / 2 % 2 == 1
 -- bits 1 to 3: 0 A-type, 1 V-type, 2 displacement, 3 total
 abbrev pub field_kind : ℕ → ℕ
 field_kind flag = flag / 16 % 8
+
+-- a V-type constant
+abbrev pub is_branch : ℕ → Bool
+is_branch flag = field_kind flag == 1
+
+-- A-type and V-type
+abbrev pub is_address_kind : ℕ → Bool
+is_address_kind flag = nat_lt (field_kind flag) 2
+
+-- bit 0: the symbol is not defined
+abbrev pub is_marked_outside : ℕ → Bool
+is_marked_outside flag = nat_lt 127 flag
+
+-- bits 4 and 5 are the length less one
+abbrev pub field_length : ℕ → ℕ
+field_length flag = flag / 4 % 4 + 1
 
 -- bits 0 to 3 mean nothing, or what is taken off is no A-type constant
 abbrev pub is_wrong_flag : ℕ → Bool

@@ -1,6 +1,6 @@
 //! Reading the relocation items of a record one after the other.
 ghost use Rattle.std.specs.Prelude.{◌≡◌, true, None, option_map};
-ghost use Rattle.load_recs.specs.Relocations.{short_item, full_item, first_item, kept_by, is_joined, is_wrong_flag, is_whole, rlds_of, has_wrong_flag};
+ghost use Rattle.load_recs.specs.Relocations.{short_item, full_item, first_item, kept_by, is_wrong_flag, is_whole, rlds_of, has_wrong_flag};
 ghost use Rattle.load_recs.specs.ItemBytes.{rld_list_bytes};
 ghost use Rattle.load_recs.specs.RldItems.{items_left, YieldsItem};
 
@@ -110,7 +110,7 @@ fn first_item(kept: Option<Pointers>, bytes: &[u8]) -> Option<(RldItem, &[u8])>
 fn kept_by(item: &RldItem) -> Option<Pointers>
     ensures { result ≡ kept_by item.now }
 {
-    if is_joined(item.flag) {
+    if item.shares_pointers() {
         Some(Pointers {
             r: item.r,
             p: item.p,
@@ -120,16 +120,10 @@ fn kept_by(item: &RldItem) -> Option<Pointers>
     }
 }
 
-fn is_joined(flag: u8) -> bool
-    ensures { result ≡ is_joined flag }
+fn is_wrong_flag(item: &RldItem) -> bool
+    ensures { result ≡ is_wrong_flag item.now.flag }
 {
-    flag % 2 == 1
-}
-
-fn is_wrong_flag(flag: u8) -> bool
-    ensures { result ≡ is_wrong_flag flag }
-{
-    !matches!(flag / 16, 0..=3 | 8 | 9) || (flag / 2 % 2 == 1 && flag / 16 % 8 != 0)
+    !matches!(item.flag / 16, 0..=3 | 8 | 9) || (item.is_minus() && item.field_kind() != 0)
 }
 
 /// Whether the bytes are whole items.
@@ -148,10 +142,10 @@ pub fn has_wrong_flag(b: &[u8]) -> bool
     let mut joined = false;
     let mut items = walk(b);
     while let Some(item) = items.next_item() {
-        if is_wrong_flag(item.flag) {
+        if is_wrong_flag(&item) {
             return true;
         }
-        joined = is_joined(item.flag);
+        joined = item.shares_pointers();
     }
     joined
 }
