@@ -7,8 +7,9 @@ use Rattle.std.proofs.lemmas.List.Sums.{prefix_len-le-length}
 use Rattle.std.proofs.lemmas.Bool.{eqb-true, ne_eqb, le-leb, lt-leb, lt-ltb, ltb-true, cases_Bool, cases_lt, true≢false, and_parts, and_from, or_left, agree_below, agree_below_at}
 use Rattle.std.proofs.lemmas.List.{length-map, length-take}
 use Rattle.std.proofs.Math.Seq.{take-append_seam}
+use Rattle.std.proofs.lemmas.Slice.Eq.{bytes_eq-Decides}
 use Rattle.le_bytes.specs.Codes.{is_in, ascii_of, ebcdic_of}
-use Rattle.le_bytes.specs.Names.{may_begin_name, may_stand_in_name, is_name_text, code_at, padded, name_of_text}
+use Rattle.le_bytes.specs.Names.{may_begin_name, may_stand_in_name, is_name_text, code_at, padded, name_of_text, name_eq}
 use Rattle.le_bytes.specs.declared.name.Name.{Name}
 use Rattle.ctl_cards.specs.NameTexts.{begins_name, stands_in_name, written, IsWritable}
 use Rattle.ctl_cards.specs.Letters.{cell, name_with, name_length}
@@ -174,24 +175,37 @@ word_of_text (b ∷ w) h =
     let q = and_parts (may_begin_name (ascii_of b)) (list_all may_stand_in_name (map ascii_of w)) p.1 in
     (q.0, sym (stand_as_text w) ∙ q.1, rw length-map at (ltb-true (length (map ascii_of w)) 8 p.0))
 
+-- a name is writable where its characters give it as a text
+found_name : (o : Option Name) (n : Name) → o ≡ Some n → option_map_or (λ m. name_eq m n) o false ≡ true
+found_name o n e = subst (λ (o : Option Name). option_map_or (λ m. name_eq m n) o false ≡ true) (sym e) ((bytes_eq-Decides n.0 n.0).1 refl)
+
+name_found : (o : Option Name) (n : Name) → option_map_or (λ m. name_eq m n) o false ≡ true → o ≡ Some n
+name_found None n e = absurd cc
+name_found (Some m) n e = ap (λ (bs : List ℕ). some_name bs) ((bytes_eq-Decides m.0 n.0).0 e)
+
+writable_by : (n : Name) → name_of_text (map ascii_of (written n)) ≡ Some n → IsWritable n
+unfolding IsWritable written
+writable_by n e = found_name (name_of_text (map ascii_of (written n))) n e
+
+given_by : (n : Name) → IsWritable n → name_of_text (map ascii_of (written n)) ≡ Some n
+unfolding IsWritable written
+given_by n h = name_found (name_of_text (map ascii_of (written n))) n h
+
 pub writable-name_with : (w : List ℕ) → IsWord w → IsWritable (name_with w)
-unfolding IsWritable
 writable-name_with w h =
     let e : name_of_text (map ascii_of w) ≡ Some (name_with w) = rw (name_text w h) (ap (λ (xs : List ℕ). some_name xs) (padded_word w (word_stands w h))) in
-    subst (λ (xs : List ℕ). name_of_text (map ascii_of xs) ≡ Some (name_with w)) (sym (written-name_with w h)) e
+    writable_by (name_with w) (subst (λ (xs : List ℕ). name_of_text (map ascii_of xs) ≡ Some (name_with w)) (sym (written-name_with w h)) e)
 
 given : (b : Bool) (m n : Name) → cond b (Some m) None ≡ Some n → (b ≡ true) × (m ≡ n)
 given true m n e = (refl, cc)
 given false m n e = absurd cc
 
 pub word-written : (n : Name) → IsWritable n → IsWord (written n)
-unfolding IsWritable
-word-written n h = word_of_text (written n) (given (is_name_text (map ascii_of (written n))) _ n h).0
+word-written n h = word_of_text (written n) (given (is_name_text (map ascii_of (written n))) _ n (given_by n h)).0
 
 pub name_with-written : (n : Name) → IsWritable n → name_with (written n) ≡ n
-unfolding IsWritable
 name_with-written n h =
-    let g = given (is_name_text (map ascii_of (written n))) (record { 0 = padded (map ascii_of (written n)) }) n h in
+    let g = given (is_name_text (map ascii_of (written n))) (record { 0 = padded (map ascii_of (written n)) }) n (given_by n h) in
     let w : IsWord (written n) = word_of_text (written n) g.0 in
     ap (λ (xs : List ℕ). name_of_cells xs) (sym (padded_word (written n) (word_stands (written n) w))) ∙ g.1
 

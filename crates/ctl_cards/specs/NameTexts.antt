@@ -1,8 +1,8 @@
 -- Names as they stand on a card.
-use Rattle.std.specs.Prelude.{◌≡◌, ℕ, ◌==◌, Bool, not, List, Option, Some, map}
+use Rattle.std.specs.Prelude.{◌≡◌, ℕ, ◌==◌, Bool, true, not, List}
 use Rattle.std.specs.List.{take_while}
 use Rattle.le_bytes.specs.Codes.{ascii_of}
-use Rattle.le_bytes.specs.Names.{may_begin_name, may_stand_in_name, name_of_text}
+use Rattle.le_bytes.specs.Names.{may_begin_name, may_stand_in_name, is_writable}
 use Rattle.le_bytes.specs.declared.name.Name.{Name}
 
 -- the character with this code may begin a name
@@ -17,6 +17,6 @@ stands_in_name b = may_stand_in_name (ascii_of b)
 unfoldable pub written : Name → List ℕ
 written n = take_while (λ b. not (b == 64)) n.0
 
--- the name is the one that its characters give as a text
+-- some text gives the name
 unfoldable pub IsWritable : Name → Type 0
-IsWritable n = name_of_text (map ascii_of (written n)) ≡ Some n
+IsWritable n = is_writable n ≡ true

@@ -1,9 +1,9 @@
 -- Names: what text gives one, and how it is padded.
-use Rattle.std.specs.Prelude.{ℕ, Bool, false, ◌&&◌, ◌||◌, ◌==◌, nat_lt, if◌then◌else◌, List, [], ◌∷◌, length, slice_get, Option, Some, None, unwrap_or}
-use Rattle.std.specs.List.{list_all}
+use Rattle.std.specs.Prelude.{ℕ, Bool, false, not, ◌&&◌, ◌||◌, ◌==◌, nat_lt, if◌then◌else◌, List, [], ◌∷◌, length, map, slice_get, Option, Some, None, unwrap_or}
+use Rattle.std.specs.List.{list_all, take_while}
 use Rattle.std.specs.Str.{bytes_eq}
 use Rattle.std.specs.Option.{option_map_or}
-use Rattle.le_bytes.specs.Codes.{is_in, ebcdic_of}
+use Rattle.le_bytes.specs.Codes.{is_in, ascii_of, ebcdic_of}
 use Rattle.le_bytes.specs.declared.name.Name.{Name}
 
 -- a letter, or `$`, `#`, `@`, `_`
@@ -49,3 +49,11 @@ private_code_name = record { 0 = 91 ∷ 215 ∷ 217 ∷ 201 ∷ 229 ∷ 193 ∷ 
 -- `$BLNKCOM`, under which blank common is printed
 abbrev pub blank_common_name : Name
 blank_common_name = record { 0 = 91 ∷ 194 ∷ 211 ∷ 213 ∷ 210 ∷ 195 ∷ 214 ∷ 212 ∷ [] }
+
+-- the characters of a name up to its first blank
+abbrev pub text_of : Name → List ℕ
+text_of n = map ascii_of (take_while (λ b. not (b == 64)) n.0)
+
+-- some text gives the name, so a statement can write it
+abbrev pub is_writable : Name → Bool
+is_writable n = option_map_or (λ m. name_eq m n) (name_of_text (text_of n)) false

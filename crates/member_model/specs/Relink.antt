@@ -1,10 +1,8 @@
 -- The statements that link a member again. The statements are those of GC28-6538, and which of them a member needs is
 -- this project's profile.
-use Rattle.std.specs.Prelude.{ℕ, Bool, false, not, ◌&&◌, ◌==◌, nat_lt, if◌then◌else◌, List, [], ◌∷◌, ◌++◌, map, filter, flat_map, take_while}
+use Rattle.std.specs.Prelude.{ℕ, Bool, not, ◌&&◌, ◌==◌, nat_lt, if◌then◌else◌, List, [], ◌∷◌, ◌++◌, map, filter, flat_map}
 use Rattle.std.specs.List.{list_any}
-use Rattle.std.specs.Option.{option_map_or}
-use Rattle.le_bytes.specs.Codes.{ascii_of}
-use Rattle.le_bytes.specs.Names.{name_of_text, name_eq}
+use Rattle.le_bytes.specs.Names.{is_writable}
 use Rattle.le_bytes.specs.declared.name.Name.{Name}
 use Rattle.load_recs.specs.declared.items.SymbolItem.{SymbolItem}
 use Rattle.linking_model.specs.Run.{Storage}
@@ -22,16 +20,6 @@ pub data Statement : Type 0 where
   Insert : Name → Statement
   Alias : Name → Statement
   Replace : Name → Statement
-
--- ---- names that statements can have
-
--- the characters of a name up to its first blank
-abbrev pub text_of : Name → List ℕ
-text_of name = map ascii_of (take_while (λ c. not (c == 64)) name.0)
-
--- some text gives the name
-abbrev pub is_writable : Name → Bool
-is_writable name = option_map_or (λ n. name_eq n name) (name_of_text (text_of name)) false
 
 -- ---- the statements
 
