@@ -38,20 +38,21 @@ impl<'a> Request<'a> {
     ghost use Rattle.command_words.specs.Meaning.{member_of, module_name_of, origin_of, areas_of, storage_of, options_of, size_of, path_of};
     ghost use Rattle.command_words.specs.Lists.{AreAreas};
     ghost use Rattle.command_words.specs.Settings.{text_of};
+    ghost use Rattle.command_words.specs.Seen.{words_of};
 
     /// The name that MEMBER gives. It is there where the command asks for it, which `list` does where it
     /// is to put statements.
     #[tactic(auto, using(crate::proofs::AskedLemmas::member_asked), unfolding(crate::specs::Meaning::member_of))]
     pub fn member(&self) -> Option<Name>
-        ensures value { result ≡ member_of (map string_bytes self.now.words.now) }
-        ensures asked { IsTrue (is_asked self.now.command (map string_bytes self.now.words.now) member) → IsSome result }
+        ensures value { result ≡ member_of (words_of self.now) }
+        ensures asked { IsTrue (is_asked self.now.command (words_of self.now) member) → IsSome result }
     {
         Name::from_text(value_in(MEMBER, self.words)?)
     }
 
     /// The name of a load module that no NAME statement ends: that of MEMBER, else TEMPNAME.
     pub fn module_name(&self) -> Name
-        ensures { result ≡ module_name_of (map string_bytes self.now.words.now) }
+        ensures { result ≡ module_name_of (words_of self.now) }
     {
         self.member().unwrap_or(TEMPNAME)
     }
@@ -59,7 +60,7 @@ impl<'a> Request<'a> {
     /// The address that ORIGIN gives, 0 where it is not given.
     #[tactic(auto, unfolding(crate::specs::Meaning::origin_of))]
     pub fn origin(&self) -> u32
-        ensures value { result ≡ origin_of (map string_bytes self.now.words.now) }
+        ensures value { result ≡ origin_of (words_of self.now) }
         ensures small { result < 2 ^ 24 }
     {
         match value_in(ORIGIN, self.words) {
@@ -71,7 +72,7 @@ impl<'a> Request<'a> {
     /// The areas that AREAS gives, in order; none where it is not given.
     #[tactic(auto, unfolding(crate::specs::Meaning::areas_of))]
     pub fn areas(&self, alloc: Global) -> Result<Vec<AreaRange>, Memory>
-        ensures value { IfOk result (λ areas. areas.items ≡ areas_of (map string_bytes self.now.words.now)) }
+        ensures value { IfOk result (λ areas. areas.items ≡ areas_of (words_of self.now)) }
         ensures in_order { IfOk result (λ areas. AreAreas 0 areas.items) }
     {
         areas_in(alloc, value_in(AREAS, self.words).unwrap_or(""))
@@ -81,7 +82,7 @@ impl<'a> Request<'a> {
     /// AREAS does not give such an area.
     #[tactic(auto, unfolding(crate::specs::Meaning::storage_of))]
     pub fn storage(&self) -> AreaRange
-        ensures value { result ≡ storage_of (map string_bytes self.now.words.now) }
+        ensures value { result ≡ storage_of (words_of self.now) }
         ensures aligned { result.from % 8 ≡ 0 }
         ensures ascends { result.from ≤ result.to }
         ensures fits { result.to < 2 ^ 24 }
@@ -96,7 +97,7 @@ impl<'a> Request<'a> {
     /// The options that PARM turns on.
     #[tactic(auto, unfolding(crate::specs::Meaning::options_of))]
     pub fn options(&self) -> Options
-        ensures { result ≡ options_of (map string_bytes self.now.words.now) }
+        ensures { result ≡ options_of (words_of self.now) }
     {
         options_in(value_in(PARM, self.words).unwrap_or(""))
     }
@@ -104,7 +105,7 @@ impl<'a> Request<'a> {
     /// The size of the deck that `gen` makes, from 1 to 20000.
     #[tactic(auto, unfolding(crate::specs::Meaning::size_of))]
     pub fn size(&self) -> u32
-        ensures value { result ≡ size_of (map string_bytes self.now.words.now) }
+        ensures value { result ≡ size_of (words_of self.now) }
         ensures in_range { (1 ≤ result) × (result ≤ 20000) }
     {
         match value_in(PARM, self.words) {
@@ -116,8 +117,8 @@ impl<'a> Request<'a> {
     /// The path of the data set with this data definition name. It is there where the command asks for it.
     #[tactic(auto, using(crate::proofs::AskedLemmas::path_asked), unfolding(crate::specs::Meaning::path_of))]
     pub fn path(&self, dd: Name) -> Option<&'a str>
-        ensures value { text_of result ≡ path_of (map string_bytes self.now.words.now) dd }
-        ensures asked { IsTrue (is_asked self.now.command (map string_bytes self.now.words.now) dd) → is_reserved dd ≡ false → IsSome result }
+        ensures value { text_of result ≡ path_of (words_of self.now) dd }
+        ensures asked { IsTrue (is_asked self.now.command (words_of self.now) dd) → is_reserved dd ≡ false → IsSome result }
     {
         if is_reserved(dd) {
             None
