@@ -19,6 +19,3 @@ pub use options::Options;
 pub use reading::{data_set_in, read_words};
 pub use request::{DataSet, Request};
 pub use word::has_key;
-
-#[cfg(test)]
-mod tests;

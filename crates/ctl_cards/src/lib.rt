@@ -14,6 +14,3 @@ mod statement;
 
 pub use reading::read_statement;
 pub use statement::{IncludeItem, LibraryItem, Statement, StmtFault};
-
-#[cfg(test)]
-mod tests;

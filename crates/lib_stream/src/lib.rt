@@ -11,6 +11,3 @@ mod source;
 
 pub use failing::FailingRecords;
 pub use source::RecordSource;
-
-#[cfg(test)]
-mod tests;

@@ -19,6 +19,3 @@ pub use reading::read_rec;
 pub use records::{Ends, Expect, Rec, RecFault, TextHead};
 pub use relocation_items::{RldItems, rld_items};
 pub use writing::write_rec;
-
-#[cfg(test)]
-mod tests;

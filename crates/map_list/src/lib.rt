@@ -10,8 +10,6 @@ mod printed;
 mod record_faults;
 mod refusals;
 mod run_faults;
-#[cfg(test)]
-mod tests;
 mod words;
 
 pub use dumps::{dump_line, push_dump};

@@ -24,6 +24,3 @@ pub use reading::read_card;
 pub use rld::read_rld;
 pub use txt::read_txt;
 pub use writing::write_card;
-
-#[cfg(test)]
-mod tests;

@@ -20,6 +20,3 @@ pub use kinds::{LibKind, Version};
 pub use parts::{is_below, part};
 pub use places::{ends_of, read_records, run_length};
 pub use stop::LibStop;
-
-#[cfg(test)]
-mod tests;

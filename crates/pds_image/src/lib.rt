@@ -12,6 +12,3 @@ mod writing;
 pub use laws::written_libraries_are_read;
 pub use length::image_length;
 pub use writing::image;
-
-#[cfg(test)]
-mod tests;

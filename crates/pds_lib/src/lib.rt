@@ -22,6 +22,3 @@ pub use pds_directory::{
 };
 pub use records::Records;
 pub use set::{Body, Set};
-
-#[cfg(test)]
-mod tests;

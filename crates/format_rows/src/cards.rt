@@ -1,9 +1,9 @@
 //! Cards whose bytes are known from elsewhere.
-use crate::{
+use le_bytes::{CardWhat, Name};
+use obj_cards::{
     Card, CardFault, CardRld, EndCard, EndStart, EsdCard, EsdItem, RldCard, TxtCard, read_card,
     write_card,
 };
-use le_bytes::{CardWhat, Name};
 
 const A: Name = Name([0xC1, 0x40, 0x40, 0x40, 0x40, 0x40, 0x40, 0x40]);
 

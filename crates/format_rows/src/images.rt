@@ -1,26 +1,12 @@
 ghost use Rattle.std.specs.Prelude.{◌≡◌, ◌<◌, ◌≤◌, ◌+◌, ◌^◌, ℕ, List, length, IfOk};
 ghost use Rattle.std.specs.List.{AllByRecursion};
 
-use crate::*;
+use crate::samples::{FRONT, RECORDS, block, sample};
 use le_bytes::{Bytes, Items, Memory, Name};
+use pds_image::{image, image_length};
 use pds_lib::{AliasAt, Entry, LibKind, Library, Member, Version};
 use std::alloc::{AllocError, Global};
 use std::test::Fail;
-
-/// Header and directory of a library of one load module, TEMPNAME, as far as the last entry.
-const FRONT: [u8; 58] = [
-    0xD7, 0xC4, 0xE2, 0xC9, 0xD4, 0xC1, 0xC7, 0xC5, 0x01, 0xE4, 0, 0, 0, 0, 0, 1, 0, 0, 0, 5, 0x00,
-    0x26, 0xE3, 0xC5, 0xD4, 0xD7, 0xD5, 0xC1, 0xD4, 0xC5, 0, 0, 1, 0x06, 0, 0, 0, 0, 8, 0, 0, 0, 0,
-    0, 0, 1, 0xFF, 0xFF, 0xFF, 0xFF, 0xFF, 0xFF, 0xFF, 0xFF, 0, 0, 0, 0,
-];
-
-/// Its four records, and the one that ends the member.
-const RECORDS: [u8; 86] = [
-    0x00, 0x18, 0x20, 0, 0, 0, 0, 1, 0, 0x10, 0xC1, 0x40, 0x40, 0x40, 0x40, 0x40, 0x40, 0x40, 0, 0,
-    0, 0, 1, 0, 0, 8, 0x00, 0x14, 0x01, 0, 0, 0, 0, 0, 0, 4, 6, 0, 0, 0, 0, 0, 0, 8, 0, 1, 0, 8,
-    0x00, 0x08, 0, 0, 0, 0, 0, 0, 0, 4, 0x00, 0x18, 0x0E, 0, 0, 0, 0, 8, 0, 0, 0, 0, 0, 0, 0, 0, 0,
-    0, 0, 1, 0, 1, 0x0C, 0, 0, 4, 0x00, 0x00,
-];
 
 /// A library of one member of one card behind a dead record. Its entry has user data X'AABB' and a
 /// count of one TTR in them.
@@ -29,21 +15,6 @@ const CARDS: [u8; 48] = [
     0x1C, 0xC1, 0xC2, 0xC3, 0xC4, 0xC5, 0xC6, 0xC7, 0xC8, 0, 0, 2, 0x21, 0xAA, 0xBB, 0xFF, 0xFF,
     0xFF, 0xFF, 0xFF, 0xFF, 0xFF, 0xFF, 0, 0, 0, 0,
 ];
-
-/// `front` with zero bytes up to the end of the first block.
-fn block(alloc: Global, front: &[u8]) -> Result<Vec<u8>, AllocError> {
-    let mut image = Vec::from_slice(alloc, front)?;
-    for _ in front.len()..276 {
-        image.push(0)?;
-    }
-    Ok(image)
-}
-
-fn sample(alloc: Global) -> Result<Vec<u8>, AllocError> {
-    let mut image = block(alloc, &FRONT)?;
-    image.extend_from_slice(&RECORDS)?;
-    Ok(image)
-}
 
 fn cards(alloc: Global, front: &[u8], ends: &[u8]) -> Result<Vec<u8>, AllocError> {
     let mut image = block(alloc, front)?;

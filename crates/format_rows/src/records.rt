@@ -1,5 +1,9 @@
-use super::*;
+//! Records of a load module, read and written.
 use le_bytes::Name;
+use load_recs::{
+    Ends, Expect, Rec, RecFault, RldItem, SymbolItem, SymbolKind, TextHead, put_rld_item,
+    put_symbol_item, read_rec, rld_items, symbol_item, write_rec,
+};
 use std::process::Abort;
 use std::test::Fail;
 

@@ -1,4 +1,5 @@
-use crate::{IncludeItem, LibraryItem, Statement, StmtFault, read_statement};
+//! Statements by their cards.
+use ctl_cards::{IncludeItem, LibraryItem, Statement, StmtFault, read_statement};
 use le_bytes::{Items, Name, from_ascii};
 use std::alloc::{AllocError, Global};
 use std::test::Fail;

@@ -1,7 +1,7 @@
 use Rattle.std.proofs.Common.{◌≡◌, take}
 use Rattle.le_io.specs.Counts.{WhereTold, NoneFalls, NoFault}
 use Rattle.lib_stream.specs.Sources.{SameRecords, SameHeld}
-use Rattle.lib_stream.proofs.tests.read_each.Given as goal
+use Rattle.format_rows.proofs.streams.read_each.Given as goal
 
 abbrev pub invariant-loop-before : goal.invariant-loop-before
 invariant-loop-before g l =

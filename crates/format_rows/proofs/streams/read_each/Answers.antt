@@ -1,6 +1,6 @@
 use Rattle.std.proofs.Common.{arith}
-use Rattle.lib_stream.proofs.Reading.{all_read}
-use Rattle.lib_stream.proofs.tests.read_each.Goals as goal
+use Rattle.format_rows.proofs.Reading.{all_read}
+use Rattle.format_rows.proofs.streams.read_each.Goals as goal
 
 pub returns-clause-told : goal.returns-clause-told
 returns-clause-told g c =

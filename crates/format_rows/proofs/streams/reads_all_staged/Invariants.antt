@@ -1,5 +1,5 @@
 use Rattle.std.proofs.Common.{◌≡◌}
-use Rattle.lib_stream.proofs.tests.reads_all_staged.Given as goal
+use Rattle.format_rows.proofs.streams.reads_all_staged.Given as goal
 
 abbrev pub invariant-loop-before : goal.invariant-loop-before
 invariant-loop-before g l =

@@ -3,9 +3,10 @@ ghost use Rattle.std.specs.Prelude.{◌≡◌, ℕ, ◌-◌, [], ◌∷◌, ◌+
 ghost use Rattle.le_io.specs.Counts.{WhereTold, NoneFalls, NoFault, Rose};
 ghost use Rattle.lib_stream.specs.Sources.{SameRecords, SameHeld, IsRecordNumber};
 
-use crate::{FailingRecords, RecordSource};
+use crate::samples::{self, RECORDS};
 use le_bytes::{Bytes, Items};
 use le_io::{MemStore, Store};
+use lib_stream::{FailingRecords, RecordSource};
 use pds_lib::Library;
 use std::alloc::Global;
 use std::test::Fail;
@@ -102,28 +103,8 @@ fn reads_all_staged<S: Store, R: RecordSource<S>>(s: &mut S, r: &mut R) -> bool
     true
 }
 
-/// Header and directory of a library of one load module, as far as the last entry.
-const FRONT: [u8; 58] = [
-    0xD7, 0xC4, 0xE2, 0xC9, 0xD4, 0xC1, 0xC7, 0xC5, 0x01, 0xE4, 0, 0, 0, 0, 0, 1, 0, 0, 0, 5, 0x00,
-    0x26, 0xE3, 0xC5, 0xD4, 0xD7, 0xD5, 0xC1, 0xD4, 0xC5, 0, 0, 1, 0x06, 0, 0, 0, 0, 8, 0, 0, 0, 0,
-    0, 0, 1, 0xFF, 0xFF, 0xFF, 0xFF, 0xFF, 0xFF, 0xFF, 0xFF, 0, 0, 0, 0,
-];
-
-/// Its four records, each behind its length, and the one that ends the member.
-const RECORDS: [u8; 86] = [
-    0x00, 0x18, 0x20, 0, 0, 0, 0, 1, 0, 0x10, 0xC1, 0x40, 0x40, 0x40, 0x40, 0x40, 0x40, 0x40, 0, 0,
-    0, 0, 1, 0, 0, 8, 0x00, 0x14, 0x01, 0, 0, 0, 0, 0, 0, 4, 6, 0, 0, 0, 0, 0, 0, 8, 0, 1, 0, 8,
-    0x00, 0x08, 0, 0, 0, 0, 0, 0, 0, 4, 0x00, 0x18, 0x0E, 0, 0, 0, 0, 8, 0, 0, 0, 0, 0, 0, 0, 0, 0,
-    0, 0, 1, 0, 1, 0x0C, 0, 0, 4, 0x00, 0x00,
-];
-
 fn sample(alloc: Global) -> Result<Library, Fail> {
-    let mut image = Vec::from_slice(alloc, &FRONT)?;
-    for _ in 0..218 {
-        image.push(0)?;
-    }
-    image.extend_from_slice(&RECORDS)?;
-    Ok(Library::read(alloc, image)?)
+    Ok(Library::read(alloc, samples::sample(alloc)?)?)
 }
 
 /// Whether these are the four records.

@@ -1,5 +1,5 @@
-use Rattle.lib_stream.proofs.Reading.{added_record}
-use Rattle.lib_stream.proofs.tests.add_record.Goals as goal
+use Rattle.format_rows.proofs.Reading.{added_record}
+use Rattle.format_rows.proofs.streams.add_record.Goals as goal
 
 pub returns-in-Ok-clause-told : goal.returns-in-Ok-clause-told
 returns-in-Ok-clause-told g c =

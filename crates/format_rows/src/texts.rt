@@ -1,8 +1,10 @@
 //! Every line at least once, and the lines of a few programs.
-use super::*;
 use le_bytes::{
     CardWhat, Counted, EventWhat, LibFault, Name, PlaceWhat, RecWhat, Refusal, Spot, StartWhat,
     SymbolWhat, WordWhat,
+};
+use map_list::{
+    Line, push_dump, push_entry, push_linked, push_number, push_unresolved, refusal_text,
 };
 use std::test::Fail;
 

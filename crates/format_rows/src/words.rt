@@ -1,5 +1,5 @@
 //! The words of whole command lines.
-use crate::{AreaRange, BadWord, Command, data_set_in, keys, read_words};
+use command_words::{AreaRange, BadWord, Command, data_set_in, keys, read_words};
 use le_bytes::{Name, WordWhat};
 use std::alloc::{AllocError, Global};
 use std::process::Abort;

@@ -1,31 +1,9 @@
-use crate::*;
+//! Headers and directories.
+use crate::samples::{RECORDS, sample};
 use le_bytes::{LibFault, Name};
-use std::alloc::{AllocError, Global};
+use pds_directory::{LibStop, Span, ends_of, part, read_directory, read_records, run_length};
+use std::alloc::Global;
 use std::test::Fail;
-
-/// Header and directory of a library of one load module, TEMPNAME, as far as the last entry.
-const FRONT: [u8; 58] = [
-    0xD7, 0xC4, 0xE2, 0xC9, 0xD4, 0xC1, 0xC7, 0xC5, 0x01, 0xE4, 0, 0, 0, 0, 0, 1, 0, 0, 0, 5, 0x00,
-    0x26, 0xE3, 0xC5, 0xD4, 0xD7, 0xD5, 0xC1, 0xD4, 0xC5, 0, 0, 1, 0x06, 0, 0, 0, 0, 8, 0, 0, 0, 0,
-    0, 0, 1, 0xFF, 0xFF, 0xFF, 0xFF, 0xFF, 0xFF, 0xFF, 0xFF, 0, 0, 0, 0,
-];
-
-/// Its four records, and the one that ends the member.
-const RECORDS: [u8; 86] = [
-    0x00, 0x18, 0x20, 0, 0, 0, 0, 1, 0, 0x10, 0xC1, 0x40, 0x40, 0x40, 0x40, 0x40, 0x40, 0x40, 0, 0,
-    0, 0, 1, 0, 0, 8, 0x00, 0x14, 0x01, 0, 0, 0, 0, 0, 0, 4, 6, 0, 0, 0, 0, 0, 0, 8, 0, 1, 0, 8,
-    0x00, 0x08, 0, 0, 0, 0, 0, 0, 0, 4, 0x00, 0x18, 0x0E, 0, 0, 0, 0, 8, 0, 0, 0, 0, 0, 0, 0, 0, 0,
-    0, 0, 1, 0, 1, 0x0C, 0, 0, 4, 0x00, 0x00,
-];
-
-fn sample(alloc: Global) -> Result<Vec<u8>, AllocError> {
-    let mut image = Vec::from_slice(alloc, &FRONT)?;
-    for _ in 0..218 {
-        image.push(0)?;
-    }
-    image.extend_from_slice(&RECORDS)?;
-    Ok(image)
-}
 
 /// The first fault of an image: of its directory, of its records, or of what its entries keep with them.
 fn fault_of(alloc: Global, image: &[u8]) -> Option<LibStop> {
