@@ -8,8 +8,6 @@ mod placing;
 mod pointing;
 mod registers;
 mod settling;
-#[cfg(test)]
-mod tests;
 
 pub use assigning::{AssignFault, are_in_tree, assign};
 pub use pointing::{Point, alias_point, entry_point};

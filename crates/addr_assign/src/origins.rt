@@ -12,9 +12,6 @@ use seg_tree::SegTree;
 use std::alloc::Global;
 use std::cmp::max;
 
-#[cfg(test)]
-mod tests;
-
 /// One more than the greatest number of a region.
 const REGIONS: u8 = 5;
 

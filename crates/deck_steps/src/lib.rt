@@ -9,6 +9,3 @@ mod reading;
 
 pub use fault::{DeckFault, DeckStop};
 pub use reading::read_decks;
-
-#[cfg(test)]
-mod tests;

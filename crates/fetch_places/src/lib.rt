@@ -6,8 +6,6 @@ mod extent;
 mod fitting;
 mod kinds;
 mod placement;
-#[cfg(test)]
-mod tests;
 
 pub use areas::{AreaFault, place_sections};
 pub use extent::Extent;

@@ -2,8 +2,8 @@
 ghost use Rattle.std.specs.Prelude.{◌≡◌, IfOk};
 ghost use Rattle.fetch_storage.specs.Homes.{home_of, homes_by, home_at};
 
-use load_recs::SymbolItem;
 use fetch_places::{Placement, is_section};
+use load_recs::SymbolItem;
 use std::alloc::{AllocError, Global};
 
 /// Where the bytes of a section go.

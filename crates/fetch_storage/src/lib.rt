@@ -8,8 +8,6 @@ mod laws;
 mod part;
 mod parts;
 mod rooms;
-#[cfg(test)]
-mod tests;
 
 pub use fields::add_shift;
 pub use homes::Home;

@@ -9,9 +9,9 @@ use crate::fields::{field_length, is_minus, is_shifted};
 use crate::homes::{Home, home_at, homes};
 use crate::part::Part;
 use crate::rooms::{rooms, shift_field, write};
+use fetch_places::Placement;
 use le_bytes::{Bytes, Items, Memory};
 use load_recs::{RldItem, SymbolItem, SymbolKind};
-use fetch_places::Placement;
 use std::alloc::{AllocError, Global};
 use std::marker::Model;
 

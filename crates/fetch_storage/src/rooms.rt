@@ -6,9 +6,9 @@ ghost use Rattle.fetch_storage.specs.Homes.{sizes_by};
 ghost use Rattle.fetch_storage.specs.Kept.{shifted_in};
 
 use crate::fields::add_shift;
+use fetch_places::{Placement, is_section};
 use le_bytes::Memory;
 use load_recs::SymbolItem;
-use fetch_places::{Placement, is_section};
 use std::alloc::Global;
 
 /// The bytes of each part, all zero.

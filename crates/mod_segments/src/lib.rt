@@ -7,8 +7,6 @@ mod chunking;
 mod cutting;
 mod piece;
 mod recording;
-#[cfg(test)]
-mod tests;
 mod text;
 
 pub use chunk_list::ChunkList;

@@ -20,6 +20,3 @@ mod texts;
 pub use fault::ObjFault;
 pub use numbered::Numbered;
 pub use reading::read_module;
-
-#[cfg(test)]
-mod tests;

@@ -7,8 +7,6 @@ mod laws;
 mod numbers;
 mod relocating;
 mod tables;
-#[cfg(test)]
-mod tests;
 mod writing;
 
 pub use laws::stored_text_is_linked;

@@ -2,8 +2,6 @@
 #![tactic(auto)]
 
 mod node;
-#[cfg(test)]
-mod tests;
 mod tree;
 
 pub use tree::{SegTree, TreeFault};

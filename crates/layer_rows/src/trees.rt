@@ -1,6 +1,6 @@
 //! Trees by their answers, and each limit from both sides.
-use crate::{SegTree, TreeFault};
 use le_bytes::Name;
+use seg_tree::{SegTree, TreeFault};
 use std::test::Fail;
 
 fn named(text: &str) -> Name {

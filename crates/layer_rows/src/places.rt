@@ -1,5 +1,5 @@
 //! Placements by their numbers.
-use crate::{Area, Placement, fits, place_block, place_sections};
+use fetch_places::{Area, Placement, fits, place_block, place_sections};
 use le_bytes::{Items, Name, PlaceWhat};
 use load_recs::{SymbolItem, SymbolKind};
 use std::alloc::Global;

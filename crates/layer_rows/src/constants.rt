@@ -1,5 +1,5 @@
 //! Numbers of fields at their edges.
-use crate::{Shift, patch};
+use relocate::{Shift, patch};
 use std::test::Fail;
 use sym_mod::Kind;
 

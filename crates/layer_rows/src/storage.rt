@@ -1,8 +1,8 @@
 //! A section with a constant, in storage.
-use crate::{Parts, add_shift};
+use fetch_places::place_block;
+use fetch_storage::{Parts, add_shift};
 use le_bytes::Name;
 use load_recs::{SymbolItem, SymbolKind};
-use fetch_places::place_block;
 use std::test::Fail;
 
 #[test]

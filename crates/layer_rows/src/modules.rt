@@ -1,8 +1,8 @@
 //! Decks whose module or first faulty card is known from elsewhere.
 ghost use Rattle.std.specs.Prelude.{◌≤◌, length};
 
-use crate::{ObjFault, read_module};
 use le_bytes::{CardWhat, Name};
+use obj_read::{ObjFault, read_module};
 use std::alloc::Global;
 use std::test::Fail;
 use sym_mod::{Item, ItemKind, Kind, SymEntry, SymTarget, SymTerm};

@@ -3,9 +3,9 @@ ghost use Rattle.std.specs.Prelude.{◌≡◌, ◌+◌, ◌^◌, ◌<◌};
 ghost use Rattle.mod_segments.specs.Chunks.{IsItem};
 ghost use Rattle.mod_segments.specs.Pieces.{last_byte};
 
-use crate::{PlacedPart, SegmentRecords, add_section, add_table, chunks};
 use le_bytes::Bytes;
 use load_recs::{Ends, RldItem};
+use mod_segments::{PlacedPart, SegmentRecords, add_section, add_table, chunks};
 use std::test::Fail;
 use text_store::WholeText;
 

@@ -1,5 +1,5 @@
 //! Decks that merge, and what is refused before the top prints it.
-use crate::{DeckFault, DeckStop, read_decks};
+use deck_steps::{DeckFault, DeckStop, read_decks};
 use esd_merge::Merged;
 use le_bytes::CardWhat;
 use std::alloc::Global;
