@@ -8,7 +8,7 @@ ghost use Rattle.linking_model.specs.Tables.{crowd_in};
 ghost use Rattle.addr_assign.specs.Laid.{is_in_tree, are_in_tree};
 ghost use Rattle.addr_assign.specs.Reach.{laid, reach, with_table, entries_at};
 
-use le_bytes::Memory;
+use le_bytes::{Memory, round8};
 use seg_tree::SegTree;
 use std::alloc::Global;
 use sym_mod::{Program, Section, Tables};
@@ -112,12 +112,4 @@ pub(crate) fn head_length(count: u8, s: u8) -> u64
     } else {
         0
     }
-}
-
-/// The least multiple of 8 that is not below `n`.
-pub(crate) fn round8(n: u64) -> u64
-    requires small { n ≤ 9007199254740992 }
-    ensures { result ≡ round8 n }
-{
-    (n + 7) / 8 * 8
 }

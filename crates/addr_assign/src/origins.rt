@@ -6,8 +6,7 @@ ghost use Rattle.linking_model.specs.Tree.{IsTree, IsSmall, region_of};
 ghost use Rattle.linking_model.specs.Places.{depth, ends_from, region_start, origin_by};
 ghost use Rattle.addr_assign.specs.Sizes.{sizes_of, end_among};
 
-use crate::measuring::round8;
-use le_bytes::Memory;
+use le_bytes::{Memory, round8};
 use seg_tree::SegTree;
 use std::alloc::Global;
 use std::cmp::max;

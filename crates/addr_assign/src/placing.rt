@@ -7,8 +7,8 @@ ghost use Rattle.addr_assign.specs.Laid.{is_in_tree};
 ghost use Rattle.addr_assign.specs.Sizes.{sizes_of};
 ghost use Rattle.addr_assign.specs.Reach.{next_place, segment_at};
 
-use crate::measuring::{head_length, round8};
-use le_bytes::{Items, Memory};
+use crate::measuring::head_length;
+use le_bytes::{Items, Memory, round8};
 use seg_tree::SegTree;
 use std::alloc::Global;
 use std::cmp::max;

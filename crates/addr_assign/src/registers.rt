@@ -3,7 +3,7 @@ ghost use Rattle.std.specs.Prelude.{◌≡◌, ◌+◌, ◌≤◌, ◌*◌, leng
 ghost use Rattle.sym_mod.specs.Sound.{IsAlignment, IsSoundRegister};
 ghost use Rattle.linking_model.specs.Points.{next_multiple, displacements, registers_end};
 
-use le_bytes::Memory;
+use le_bytes::{Memory, round8};
 use std::alloc::Global;
 use sym_mod::Register;
 
@@ -51,6 +51,6 @@ fn next_multiple(n: u64, align: u32) -> u64
         1 => n,
         2 => (n + 1) / 2 * 2,
         4 => (n + 3) / 4 * 4,
-        _ => (n + 7) / 8 * 8,
+        _ => round8(n),
     }
 }

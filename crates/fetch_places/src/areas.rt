@@ -7,7 +7,7 @@ ghost use Rattle.fetch_places.specs.Room.{has_room, filled, TakesRoom};
 
 use crate::kinds::{is_section, printed_name};
 use crate::placement::{Area, Placement};
-use le_bytes::{Items, Name};
+use le_bytes::{Items, Name, round8};
 use load_recs::SymbolItem;
 use std::alloc::{AllocError, AllocFailed, Global};
 
@@ -83,7 +83,7 @@ fn filled(area: Area, length: u32) -> Area
     ensures { result ≡ filled length area }
 {
     Area {
-        from: next_eighth(area.from) as u32 + length,
+        from: round8(u64::from(area.from)) as u32 + length,
         to: area.to,
     }
 }
@@ -99,12 +99,5 @@ fn first_with_room(areas: &[Area], length: u32) -> Option<usize>
 fn has_room(area: Area, length: u32) -> bool
     ensures { result ≡ has_room length area }
 {
-    next_eighth(area.from) + u64::from(length) <= u64::from(area.to)
-}
-
-/// The least multiple of 8 that is not below the address.
-fn next_eighth(address: u32) -> u64
-    ensures { result ≡ round8 address }
-{
-    (u64::from(address) + 7) / 8 * 8
+    round8(u64::from(area.from)) + u64::from(length) <= u64::from(area.to)
 }

@@ -5,6 +5,7 @@ ghost use Rattle.member_model.specs.Symbols.{field_length, is_minus, is_address_
 ghost use Rattle.member_model.specs.Loaded.{is_shifted};
 
 use byteorder::{BigEndian, ByteOrder};
+use le_bytes::modulus;
 use load_recs::{RldItem, SymbolItem, SymbolKind};
 
 /// Adds a shift to the big-endian number in a field of 1 to 4 bytes, or takes it off, modulo the
@@ -37,22 +38,6 @@ fn shifted(stored: u64, modulus: u64, shift: u32, minus: bool) -> u64
         u64::from(shift)
     };
     (stored % modulus + added) % modulus
-}
-
-/// One more than the greatest number of a field of 1 to 4 bytes.
-fn modulus(length: usize) -> u64
-    requires some { 1 ≤ length }
-    requires most { length ≤ 4 }
-    ensures value { result ≡ 256 ^ length }
-    ensures few { result ≤ 2 ^ 32 }
-    ensures some { 256 ≤ result }
-{
-    match length {
-        1 => 0x100,
-        2 => 0x1_0000,
-        3 => 0x100_0000,
-        _ => 0x1_0000_0000,
-    }
 }
 
 /// How many bytes the field of an item has.

@@ -5,6 +5,7 @@ ghost use Rattle.linking_model.specs.Linked.{difference};
 ghost use Rattle.relocate.specs.Patched.{shift_of, only_to, HasTerms, patched};
 
 use byteorder::{BigEndian, ByteOrder};
+use le_bytes::modulus;
 use sym_mod::Kind;
 
 /// How far what a term refers to has moved: from the address that it was assembled at to its
@@ -44,22 +45,6 @@ fn patched(stored: u64, length: usize, kind: Kind, terms: &[Shift]) -> u64
     match kind {
         Kind::Address => shifted_all(stored, modulus, terms),
         _ => only_to(terms) as u64 % modulus,
-    }
-}
-
-/// One more than the greatest number of a field of 1 to 4 bytes.
-pub(crate) fn modulus(length: usize) -> u64
-    requires some { 1 ≤ length }
-    requires most { length ≤ 4 }
-    ensures value { result ≡ 256 ^ length }
-    ensures few { result ≤ 2 ^ 32 }
-    ensures some { 256 ≤ result }
-{
-    match length {
-        1 => 0x100,
-        2 => 0x1_0000,
-        3 => 0x100_0000,
-        _ => 0x1_0000_0000,
     }
 }
 

@@ -10,9 +10,10 @@ ghost use Rattle.relocate.specs.Relocated.{placed_at, number_over, new_field, fi
 
 use crate::addresses::{address_of, displacement_at, segment_of_section};
 use crate::branches::branch_address;
-use crate::numbers::{Shift, modulus, shifted};
+use crate::numbers::{Shift, shifted};
 use crate::writing::write;
 use byteorder::{BigEndian, ByteOrder};
+use le_bytes::modulus;
 use seg_tree::SegTree;
 use sym_mod::{Constant, Kind, Places, Program, Tables, Target, Term};
 use text_store::TextKeeper;

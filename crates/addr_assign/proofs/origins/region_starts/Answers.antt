@@ -1,4 +1,4 @@
-use Rattle.std.proofs.Common.{arith, sym}
+use Rattle.std.proofs.Common.{◌≤◌, arith, sym}
 use Rattle.addr_assign.proofs.Starts.{pushed, start_none, start_small, end_small, start_next}
 use Rattle.addr_assign.proofs.origins.region_starts.Goals as goal
 
@@ -14,7 +14,8 @@ pub round8-requires : goal.round8-requires
 round8-requires c =
     let low = c.loop-region-test.true in
     let start = start_small c.args.t.now.tree c.args.sizes.now c.loop-region.region c.loop-region.start c.requires.short c.requires.bounded (omega (arith, low)) c.loop-region.invariant.1 in
-    record { small = end_small c.args.t.now.tree c.args.sizes.now c.loop-region.start c.loop-region.region c.greatest_end.result c.requires.short c.requires.bounded start c.greatest_end.ensures }
+    let small : c.greatest_end.result ≤ 9007199254740992 = end_small c.args.t.now.tree c.args.sizes.now c.loop-region.start c.loop-region.region c.greatest_end.result c.requires.short c.requires.bounded start c.greatest_end.ensures in
+    omega (arith, small)
 
 pub loop-region-preserved : goal.loop-region-preserved
 loop-region-preserved c = (
