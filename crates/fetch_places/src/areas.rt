@@ -5,7 +5,7 @@ ghost use Rattle.fetch_places.specs.Extents.{Fits};
 ghost use Rattle.fetch_places.specs.Over.{IsOver, IsHomeless, AreInOrder};
 ghost use Rattle.fetch_places.specs.Room.{has_room, filled, TakesRoom};
 
-use crate::kinds::{is_section, printed_name};
+use crate::naming::printed_name;
 use crate::placement::{Area, Placement};
 use le_bytes::{Items, Name, round8};
 use load_recs::SymbolItem;
@@ -57,7 +57,7 @@ pub fn place_sections(
     let mut left = Vec::from_slice(alloc, areas)?;
     let mut addresses = Vec::new(alloc);
     for item in items {
-        if is_section(item.kind) {
+        if item.kind.is_section() {
             match take_room(&mut left, item.length) {
                 Some(address) => addresses.push(address)?,
                 None => return Err(AreaFault::NoStorage(printed_name(item))),

@@ -4,7 +4,6 @@ ghost use Rattle.member_model.specs.Placing.{sections_of};
 ghost use Rattle.fetch_places.specs.Extents.{Fits, StandEach, StandApart, EndsLow, extents_at, are_in_turn};
 
 use crate::extent::Extent;
-use crate::kinds::is_section;
 use crate::placement::Placement;
 use le_bytes::Memory;
 use load_recs::SymbolItem;
@@ -42,7 +41,7 @@ fn stand_each(alloc: Global, addresses: &[u32], items: &[SymbolItem]) -> Result<
 fn section_count(items: &[SymbolItem]) -> usize
     ensures { result ≡ length (sections_of items.now) }
 {
-    items.iter().filter(|item| is_section(item.kind)).count()
+    items.iter().filter(|item| item.kind.is_section()).count()
 }
 
 /// The sections at these addresses, as far as there are both.
@@ -55,7 +54,7 @@ fn extents_at(
 {
     let mut extents = Vec::new(alloc);
     for item in items {
-        if is_section(item.kind)
+        if item.kind.is_section()
             && let Some(address) = addresses.get(extents.len())
         {
             extents.push(Extent {

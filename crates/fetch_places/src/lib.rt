@@ -4,11 +4,10 @@
 mod areas;
 mod extent;
 mod fitting;
-mod kinds;
+mod naming;
 mod placement;
 
 pub use areas::{AreaFault, place_sections};
 pub use extent::Extent;
 pub use fitting::fits;
-pub use kinds::is_section;
 pub use placement::{Area, Placement, place_block};

@@ -1,12 +1,12 @@
 //! The fields of address constants.
 ghost use Rattle.std.specs.Prelude.{◌≡◌, ◌+◌, ◌-◌, ◌%◌, ◌^◌, ◌≤◌, ◌<◌, length, if◌then◌else◌};
 ghost use Rattle.byteorder.specs.Endian.{big_number, big_bytes};
-ghost use Rattle.member_model.specs.Symbols.{field_length, is_minus, is_address_kind, is_outside, symbol_at};
+ghost use Rattle.member_model.specs.Symbols.{is_outside, symbol_at};
 ghost use Rattle.member_model.specs.Loaded.{is_shifted};
 
 use byteorder::{BigEndian, ByteOrder};
 use le_bytes::modulus;
-use load_recs::{RldItem, SymbolItem, SymbolKind};
+use load_recs::{RldItem, SymbolItem};
 
 /// Adds a shift to the big-endian number in a field of 1 to 4 bytes, or takes it off, modulo the
 /// field's size. The shift is a difference of addresses modulo 2 to the power of 32.
@@ -40,27 +40,11 @@ fn shifted(stored: u64, modulus: u64, shift: u32, minus: bool) -> u64
     (stored % modulus + added) % modulus
 }
 
-/// How many bytes the field of an item has.
-pub(crate) fn field_length(item: &RldItem) -> usize
-    ensures value { result ≡ field_length item.now }
-    ensures some { 1 ≤ result }
-    ensures most { result ≤ 4 }
-{
-    usize::from(item.flag / 4 % 4) + 1
-}
-
-/// Whether the shift is taken off.
-pub(crate) fn is_minus(item: &RldItem) -> bool
-    ensures { result ≡ is_minus item.now }
-{
-    item.flag / 2 % 2 == 1
-}
-
 /// Whether an item adds a shift: it is of A-type or V-type, and its symbol is defined.
 pub(crate) fn is_shifted(items: &[SymbolItem], item: &RldItem) -> bool
     ensures { result ≡ is_shifted items.now item.now }
 {
-    item.flag / 16 % 8 < 2 && !is_outside(items, item.r)
+    item.is_address_kind() && !is_outside(items, item.r)
 }
 
 /// Whether item `n`, from 1, is a name that is not defined.
@@ -71,7 +55,7 @@ fn is_outside(items: &[SymbolItem], n: u32) -> bool
         return false;
     }
     match items.get(n as usize - 1) {
-        Some(item) => matches!(item.kind, SymbolKind::Er | SymbolKind::Wx),
+        Some(item) => item.kind.is_outside(),
         None => false,
     }
 }

@@ -2,7 +2,7 @@
 ghost use Rattle.std.specs.Prelude.{◌≡◌, IfOk};
 ghost use Rattle.fetch_storage.specs.Homes.{home_of, homes_by, home_at};
 
-use fetch_places::{Placement, is_section};
+use fetch_places::Placement;
 use load_recs::SymbolItem;
 use std::alloc::{AllocError, Global};
 
@@ -30,7 +30,7 @@ pub(crate) fn homes(
     let mut sections = 0;
     for item in items {
         homes.push(home_of(p, item, sections))?;
-        if is_section(item.kind) {
+        if item.kind.is_section() {
             sections += 1;
         }
     }
@@ -44,7 +44,7 @@ fn home_of(p: &Placement, item: &SymbolItem, sections: usize) -> Home
     match p {
         Placement::Block(_, _) => Home { part: 0, base: 0 },
         Placement::Scattered(_) => Home {
-            part: if is_section(item.kind) { sections } else { 0 },
+            part: if item.kind.is_section() { sections } else { 0 },
             base: item.address,
         },
     }

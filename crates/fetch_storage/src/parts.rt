@@ -5,7 +5,7 @@ ghost use Rattle.member_model.specs.Loaded.{is_shifted};
 ghost use Rattle.std.specs.List.{zip};
 ghost use Rattle.fetch_storage.specs.Kept.{part_at};
 
-use crate::fields::{field_length, is_minus, is_shifted};
+use crate::fields::is_shifted;
 use crate::homes::{Home, home_at, homes};
 use crate::part::Part;
 use crate::rooms::{rooms, shift_field, write};
@@ -150,9 +150,9 @@ impl Parts {
             &mut self.rooms,
             home.part,
             from,
-            field_length(field),
+            usize::from(field.field_length()),
             shift,
-            is_minus(field),
+            field.is_minus(),
         );
     }
 

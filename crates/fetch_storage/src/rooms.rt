@@ -6,7 +6,7 @@ ghost use Rattle.fetch_storage.specs.Homes.{sizes_by};
 ghost use Rattle.fetch_storage.specs.Kept.{shifted_in};
 
 use crate::fields::add_shift;
-use fetch_places::{Placement, is_section};
+use fetch_places::Placement;
 use le_bytes::Memory;
 use load_recs::SymbolItem;
 use std::alloc::Global;
@@ -41,7 +41,7 @@ fn section_rooms(alloc: Global, items: &[SymbolItem]) -> Result<Vec<Vec<u8>>, Me
 {
     let mut rooms = Vec::new(alloc);
     for item in items {
-        if is_section(item.kind) {
+        if item.kind.is_section() {
             rooms.push(vec![in alloc; 0u8; item.length as usize]?)?;
         }
     }

@@ -11,7 +11,8 @@ use Rattle.load_recs.specs.declared.items.SymbolItem.{SymbolItem}
 use Rattle.load_recs.specs.declared.items.RldItem.{RldItem}
 use Rattle.linking_model.specs.Places.{Laid}
 use Rattle.member_model.specs.Parts.{Part, part_kind, part_place, part_length, part_segment, part_number}
-use Rattle.member_model.specs.Symbols.{is_text_kind, is_register_kind, is_referable_kind, symbol_at, is_outside, field_kind, field_length, is_address_kind, is_marked_outside}
+use Rattle.load_recs.specs.Kinds.{is_text_kind}
+use Rattle.member_model.specs.Symbols.{is_register_kind, is_referable_kind, symbol_at, is_outside, field_kind, field_length, is_address_kind, is_marked_outside}
 use Rattle.member_model.specs.SymbolList.{symbol_kind, part_symbol, symbols_written}
 use Rattle.member_model.specs.Facts.{Facts}
 use Rattle.member_model.specs.Faults.{first_some, when, text_section, lies_in, fits, differ, shares_wrongly, field_fault, fields_fault}

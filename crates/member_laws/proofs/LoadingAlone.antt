@@ -17,7 +17,8 @@ use Rattle.linking_model.specs.Places.{Laid, is_overlay, has_segtab, entry_count
 use Rattle.linking_model.specs.Tables.{segment_of, is_defined, is_direct, needs_entry, is_called_from, holder, has_entry, entries, targets_in_order}
 use Rattle.linking_model.specs.Run.{sections_in}
 use Rattle.linking_model.proofs.Trees.{segments_are_on_their_paths}
-use Rattle.member_model.specs.Symbols.{is_section, is_section_kind, section_rank}
+use Rattle.load_recs.specs.Kinds.{is_section_kind}
+use Rattle.member_model.specs.Symbols.{is_section, section_rank}
 use Rattle.member_model.specs.SymbolList.{symbols_written, symbol_kind, part_symbol}
 use Rattle.member_model.specs.Parts.{Part, SegmentTable, OneSection, EntryTable, parts, parts_in, part_number, part_kind}
 use Rattle.member_laws.specs.Linkable.{IsLinkable, StandsInTree}

@@ -11,7 +11,8 @@ use Rattle.sym_mod.specs.declared.program.Unknown.{Unknown}
 use Rattle.load_recs.specs.declared.items.SymbolItem.{SymbolItem}
 use Rattle.load_recs.specs.declared.items.SymbolKind.TheVariants as item
 use Rattle.linking_model.specs.Places.{Laid}
-use Rattle.member_model.specs.Symbols.{symbol_at, is_outside, is_outside_kind, section_of, section_as, address_in_module}
+use Rattle.load_recs.specs.Kinds.{is_outside_kind}
+use Rattle.member_model.specs.Symbols.{symbol_at, is_outside, section_of, section_as, address_in_module}
 use Rattle.member_model.specs.Parts.{Part, SegmentTable, OneSection, EntryTable, parts, part_eq, part_kind, part_place, part_number}
 use Rattle.member_model.specs.SymbolList.{symbols_written, symbol_kind, part_symbol, label_symbol, unresolved_symbol, register_symbol}
 use Rattle.member_laws.proofs.LoadingLists.{Among}

@@ -23,7 +23,8 @@ use Rattle.linking_model.specs.Tree.{Tree, segments}
 use Rattle.linking_model.specs.Tables.{NamedTarget, named_section, private_section, named_label, named_targets, targets_in_order, has_entry, entries}
 use Rattle.linking_model.specs.Places.{Laid, place, table_place, entries_of, entry_count, entab_length, end_of, module_length}
 use Rattle.member_model.specs.Parts.{Part, SegmentTable, OneSection, EntryTable, part_place, part_length, part_number, target_number}
-use Rattle.member_model.specs.Symbols.{symbol_at, is_outside, is_outside_kind, is_referable_kind, is_register_kind, field_kind, field_length, is_address_kind, is_marked_outside}
+use Rattle.load_recs.specs.Kinds.{is_outside_kind}
+use Rattle.member_model.specs.Symbols.{symbol_at, is_outside, is_referable_kind, is_register_kind, field_kind, field_length, is_address_kind, is_marked_outside}
 use Rattle.member_model.specs.Faults.{fits, differ}
 use Rattle.member_model.specs.Chunks.{term_item, by_address, section_items, entry_items, part_items}
 use Rattle.member_model.specs.SymbolList.{symbols_written}

@@ -18,7 +18,8 @@ use Rattle.load_recs.specs.declared.items.SymbolItem.{SymbolItem}
 use Rattle.load_recs.specs.declared.items.SymbolKind.TheVariants.{Er, Wx}
 use Rattle.linking_model.specs.Places.{Laid}
 use Rattle.member_model.specs.Parts.{Part, OneSection, parts, part_kind, part_place, part_number}
-use Rattle.member_model.specs.Symbols.{is_section, is_section_kind, symbol_at, section_as, section_of, section_rank, section_addresses}
+use Rattle.load_recs.specs.Kinds.{is_section_kind}
+use Rattle.member_model.specs.Symbols.{is_section, symbol_at, section_as, section_of, section_rank, section_addresses}
 use Rattle.member_model.specs.SymbolList.{symbol_kind, part_symbol, label_symbol, unresolved_symbol, register_symbol, symbols_written, translation_numbers}
 use Rattle.member_model.specs.Faults.{translations}
 use Rattle.member_laws.specs.Linkable.{IsLinkable}

@@ -23,7 +23,8 @@ use Rattle.load_recs.specs.declared.items.SymbolKind.TheVariants.{Lr, Er, Wx}
 use Rattle.linking_model.specs.Tree.{segments}
 use Rattle.linking_model.specs.Places.{Laid, is_overlay, place, length_of_section, module_length}
 use Rattle.member_model.specs.Parts.{Part, OneSection, parts, parts_in, part_kind, part_place, part_segment, part_length, part_number}
-use Rattle.member_model.specs.Symbols.{is_overlay_member, is_scatter_member, is_section, is_section_kind, is_text_kind, symbol_at, end_of}
+use Rattle.load_recs.specs.Kinds.{is_section_kind, is_text_kind}
+use Rattle.member_model.specs.Symbols.{is_overlay_member, is_scatter_member, is_section, symbol_at, end_of}
 use Rattle.member_model.specs.SymbolList.{symbol_kind, part_symbol, label_symbol, unresolved_symbol, register_symbol, symbols_written}
 use Rattle.member_model.specs.Faults.{when, last_end, is_section_outside, label_fault, symbol_fault, symbols_fault}
 use Rattle.member_model.specs.Written.{attribute}

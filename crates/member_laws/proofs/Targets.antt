@@ -19,7 +19,8 @@ use Rattle.load_recs.specs.declared.items.SymbolItem.{SymbolItem}
 use Rattle.load_recs.specs.declared.items.SymbolKind.TheVariants.{Er, Wx}
 use Rattle.linking_model.specs.Places.{Laid}
 use Rattle.member_model.specs.Parts.{Part, OneSection, parts, part_kind, part_number, target_number}
-use Rattle.member_model.specs.Symbols.{symbol_at, is_outside_kind, is_register_kind, is_referable_kind}
+use Rattle.load_recs.specs.Kinds.{is_outside_kind}
+use Rattle.member_model.specs.Symbols.{symbol_at, is_register_kind, is_referable_kind}
 use Rattle.member_model.specs.SymbolList.{symbol_kind, part_symbol, label_symbol, unresolved_symbol, register_symbol, symbols_written}
 use Rattle.member_laws.specs.Linkable.{IsLinkable}
 use Rattle.member_laws.proofs.Counts.{symbols-count, symbols_few}

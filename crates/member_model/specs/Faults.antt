@@ -18,7 +18,8 @@ use Rattle.load_recs.specs.declared.items.SymbolItem.{SymbolItem}
 use Rattle.load_recs.specs.declared.items.RldItem.{RldItem}
 use Rattle.load_recs.specs.declared.records.Ends.{Ends}
 use Rattle.load_recs.specs.declared.records.TextHead.{TextHead}
-use Rattle.member_model.specs.Symbols.{is_overlay_member, is_scatter_member, is_section, is_section_kind, is_text_kind, is_register_kind, is_referable_kind, symbol_at, end_of, is_outside, section_of, section_rank, section_addresses, field_kind, field_length, is_address_kind, is_marked_outside}
+use Rattle.load_recs.specs.Kinds.{is_section_kind, is_text_kind}
+use Rattle.member_model.specs.Symbols.{is_overlay_member, is_scatter_member, is_section, is_register_kind, is_referable_kind, symbol_at, end_of, is_outside, section_of, section_rank, section_addresses, field_kind, field_length, is_address_kind, is_marked_outside}
 use Rattle.member_model.specs.Facts.{Facts, stage_of}
 
 -- the first that is there

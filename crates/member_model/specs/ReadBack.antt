@@ -23,7 +23,8 @@ use Rattle.load_recs.specs.declared.items.SymbolKind.TheVariants.{Sd, Lr, Pc, Cm
 use Rattle.load_recs.specs.declared.items.SymbolItem.{SymbolItem}
 use Rattle.load_recs.specs.declared.items.RldItem.{RldItem}
 use Rattle.linking_model.specs.Names.{firsts}
-use Rattle.member_model.specs.Symbols.{is_table, is_outside_kind, symbol_at, address_in_module, field_kind, field_length, is_minus, same_field}
+use Rattle.load_recs.specs.Kinds.{is_outside_kind}
+use Rattle.member_model.specs.Symbols.{is_table, symbol_at, address_in_module, field_kind, field_length, is_minus, same_field}
 use Rattle.member_model.specs.Facts.{Facts, Text, facts}
 
 -- ---- what goes

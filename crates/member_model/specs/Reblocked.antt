@@ -11,7 +11,7 @@ use Rattle.load_recs.specs.Reading.{contents}
 use Rattle.load_recs.specs.declared.items.SymbolItem.{SymbolItem}
 use Rattle.load_recs.specs.declared.items.NoteItem.{NoteItem}
 use Rattle.load_recs.specs.declared.items.RldItem.{RldItem}
-use Rattle.member_model.specs.Symbols.{is_text_kind}
+use Rattle.load_recs.specs.Kinds.{is_text_kind}
 use Rattle.member_model.specs.Facts.{Facts, facts}
 use Rattle.member_model.specs.Faults.{segment_count}
 use Rattle.member_model.specs.Loaded.{in_block, text_storage, items_in}

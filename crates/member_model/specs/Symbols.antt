@@ -5,7 +5,8 @@ use Rattle.std.specs.Option.{option_map_or}
 use Rattle.le_bytes.specs.Names.{is_blank, name_eq, private_code_name, blank_common_name}
 use Rattle.le_bytes.specs.declared.name.Name.{Name}
 use Rattle.sym_mod.specs.Reserved.{is_reserved}
-use Rattle.load_recs.specs.Relocations.{field_kind as kind_of_flag, is_minus as is_minus_flag}
+use Rattle.load_recs.specs.Kinds.{is_section_kind, is_text_kind, is_outside_kind}
+use Rattle.load_recs.specs.Relocations as flags
 use Rattle.load_recs.specs.declared.items.SymbolKind.{SymbolKind}
 use Rattle.load_recs.specs.declared.items.SymbolKind.TheVariants.{Sd, Er, Lr, Pc, Cm, Pr, Null, Wx}
 use Rattle.load_recs.specs.declared.items.SymbolItem.{SymbolItem}
@@ -30,30 +31,11 @@ abbrev pub is_sd : SymbolKind → Bool
 is_sd Sd = true
 is_sd _ = false
 
--- sections: SD, PC and CM
-abbrev pub is_section_kind : SymbolKind → Bool
-is_section_kind Sd = true
-is_section_kind Pc = true
-is_section_kind Cm = true
-is_section_kind _ = false
-
--- sections that have text
-abbrev pub is_text_kind : SymbolKind → Bool
-is_text_kind Sd = true
-is_text_kind Pc = true
-is_text_kind _ = false
-
 -- sections that have a name
 abbrev pub is_named_kind : SymbolKind → Bool
 is_named_kind Sd = true
 is_named_kind Cm = true
 is_named_kind _ = false
-
--- names that are not defined
-abbrev pub is_outside_kind : SymbolKind → Bool
-is_outside_kind Er = true
-is_outside_kind Wx = true
-is_outside_kind _ = false
 
 -- pseudo-registers
 abbrev pub is_register_kind : SymbolKind → Bool
@@ -127,23 +109,23 @@ section_addresses symbols = map (λ x. x.address) (filter is_section symbols)
 
 -- 0 A-type, 1 V-type, 2 displacement, 3 total
 abbrev pub field_kind : RldItem → ℕ
-field_kind x = kind_of_flag x.flag
+field_kind x = flags.field_kind x.flag
 
 -- bits 4 and 5 of the flag are the length less one
 abbrev pub field_length : RldItem → ℕ
-field_length x = x.flag / 4 % 4 + 1
+field_length x = flags.field_length x.flag
 
 -- bit 6 of the flag: the shift is subtracted
 abbrev pub is_minus : RldItem → Bool
-is_minus x = is_minus_flag x.flag
+is_minus x = flags.is_minus x.flag
 
 -- A-type and V-type
 abbrev pub is_address_kind : RldItem → Bool
-is_address_kind x = nat_lt (field_kind x) 2
+is_address_kind x = flags.is_address_kind x.flag
 
 -- bit 0: the symbol is not defined
 abbrev pub is_marked_outside : RldItem → Bool
-is_marked_outside x = nat_lt 127 x.flag
+is_marked_outside x = flags.is_marked_outside x.flag
 
 -- both items stand at one place
 abbrev pub same_field : RldItem → RldItem → Bool

@@ -14,7 +14,8 @@ use Rattle.load_recs.specs.Items.{item_at, symbol_of, symbols_of}
 use Rattle.load_recs.specs.declared.items.SymbolKind.{SymbolKind}
 use Rattle.load_recs.specs.declared.items.SymbolKind.TheVariants.{Sd, Er, Lr, Pc, Cm, Pr, Null, Wx}
 use Rattle.load_recs.specs.declared.items.SymbolItem.{SymbolItem}
-use Rattle.member_model.specs.Symbols.{is_section_kind, is_text_kind, is_section, end_of, symbol_at, section_as, section_of, section_rank, section_addresses}
+use Rattle.load_recs.specs.Kinds.{is_section_kind, is_text_kind}
+use Rattle.member_model.specs.Symbols.{is_section, end_of, symbol_at, section_as, section_of, section_rank, section_addresses}
 use Rattle.member_model.specs.Faults.{last_end, translations, when, label_fault, symbol_fault, symbols_fault}
 use Rattle.member_walk.proofs.ItemLists.{item_next}
 use Rattle.member_walk.specs.Symbols.{names_text, labels_named, addresses_of, numbers_of, end_in, number_after, section_address, AreKept}

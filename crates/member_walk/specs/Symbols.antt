@@ -5,7 +5,8 @@ use Rattle.std.specs.Option.{option_map_or}
 use Rattle.load_recs.specs.declared.items.SymbolKind.{SymbolKind}
 use Rattle.load_recs.specs.declared.items.SymbolKind.TheVariants.{Lr}
 use Rattle.load_recs.specs.declared.items.SymbolItem.{SymbolItem}
-use Rattle.member_model.specs.Symbols.{is_section, is_text_kind, symbol_at, section_as, section_rank, section_addresses}
+use Rattle.load_recs.specs.Kinds.{is_text_kind}
+use Rattle.member_model.specs.Symbols.{is_section, symbol_at, section_as, section_rank, section_addresses}
 use Rattle.member_model.specs.Faults.{last_end, translations}
 
 -- a label names an SD or PC among these items

@@ -2,7 +2,6 @@
 ghost use Rattle.std.specs.Prelude.{◌≡◌, ◌<◌, ◌^◌};
 ghost use Rattle.member_walk.specs.Fields.{extent_of, place_of, clashes};
 
-use crate::kinds::{field_kind, field_length};
 use load_recs::RldItem;
 
 /// Where a field begins.
@@ -36,8 +35,8 @@ pub(crate) fn extent_of(x: &RldItem) -> Extent
     ensures { result ≡ extent_of x.now }
 {
     Extent {
-        length: field_length(x),
-        is_a_type: field_kind(x) == 0,
+        length: x.field_length(),
+        is_a_type: x.field_kind() == 0,
     }
 }
 

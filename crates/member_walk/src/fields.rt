@@ -11,10 +11,7 @@ ghost use Rattle.member_walk.specs.Fields.{items_of, clash_at, extent_after, fie
 
 use crate::faults::Refused;
 use crate::field_places::{Extent, FieldPlace, clashes, extent_of, place_of};
-use crate::kinds::{
-    field_kind, field_length, is_address_kind, is_marked_outside, is_outside_kind,
-    is_referable_kind, is_register_kind,
-};
+use crate::kinds::{is_referable_kind, is_register_kind};
 use crate::segments::{lies_in, text_section};
 use crate::symbols::Symbols;
 use le_bytes::RecWhat;
@@ -96,7 +93,7 @@ impl Fields {
         if is_marked_wrongly(x, symbol) {
             return Some(RecWhat::BadFlag);
         }
-        if !lies_in(section, x.address, u32::from(field_length(x))) {
+        if !lies_in(section, x.address, u32::from(x.field_length())) {
             return Some(RecWhat::ConstantOutside);
         }
         if self.overlaps(x) {
@@ -168,7 +165,7 @@ fn any_clashes(extents: &HashMap<FieldPlace, Extent>, x: &RldItem) -> bool
     ensures none { result ≡ false → ((address : ℕ) → x.now.address ≤ address + 3 → address < x.now.address + field_length x.now → clash_at (get place_eq extents.now) x.now address ≡ false) }
 {
     let from = u64::from(x.address);
-    for address in from.saturating_sub(3)..from + u64::from(field_length(x)) {
+    for address in from.saturating_sub(3)..from + u64::from(x.field_length()) {
         if clashes_at(extents, x, address) {
             return true;
         }
@@ -193,19 +190,19 @@ fn fits(x: &RldItem, symbol: Option<SymbolItem>) -> bool
     ensures { result ≡ fits x.now symbol }
 {
     let Some(symbol) = symbol else {
-        return field_kind(x) > 2;
+        return x.field_kind() > 2;
     };
-    if is_address_kind(x) {
+    if x.is_address_kind() {
         return is_referable_kind(symbol.kind);
     }
-    field_kind(x) > 2 || is_register_kind(symbol.kind)
+    x.field_kind() > 2 || is_register_kind(symbol.kind)
 }
 
 /// Whether the item says of its symbol that it is defined, or is not, and is wrong.
 fn is_marked_wrongly(x: &RldItem, symbol: Option<SymbolItem>) -> bool
     ensures { result ≡ (is_address_kind x.now && differ (is_marked_outside x.now) (is_outside symbol)) }
 {
-    is_address_kind(x) && is_marked_outside(x) != is_outside(symbol)
+    x.is_address_kind() && x.is_marked_outside() != is_outside(symbol)
 }
 
 /// Whether there is a symbol, which is not defined.
@@ -213,7 +210,7 @@ fn is_outside(symbol: Option<SymbolItem>) -> bool
     ensures { result ≡ is_outside symbol }
 {
     match symbol {
-        Some(symbol) => is_outside_kind(symbol.kind),
+        Some(symbol) => symbol.kind.is_outside(),
         None => false,
     }
 }

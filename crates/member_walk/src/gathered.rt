@@ -18,7 +18,6 @@ use crate::attributes::{is_overlay_member, is_scatter_member};
 use crate::faults::Refused;
 use crate::fields::{Fields, SegmentField};
 use crate::heads::head_of;
-use crate::kinds::is_section_kind;
 use crate::matching::{scattered_after, translated_after};
 use crate::notes::with_notes;
 use crate::parts::WalkParts;
@@ -445,8 +444,5 @@ pub(crate) fn comes_next(first: u32, done: usize) -> bool
 fn is_entry_section(e: &Entry, x: &SymbolItem) -> bool
     ensures { result ≡ is_entry_section e.now x.now }
 {
-    is_section_kind(x.kind)
-        && x.segment == 1
-        && x.address <= e.entry
-        && u64::from(e.entry) <= end_of(x)
+    x.kind.is_section() && x.segment == 1 && x.address <= e.entry && u64::from(e.entry) <= end_of(x)
 }

@@ -3,7 +3,6 @@ ghost use Rattle.std.specs.Prelude.{◌≡◌};
 ghost use Rattle.member_model.specs.Faults.{text_section, text_fault, lies_in};
 ghost use Rattle.member_walk.specs.Fields.{symbols_in};
 
-use crate::kinds::is_text_kind;
 use crate::symbols::{Symbols, end_of};
 use le_bytes::RecWhat;
 use load_recs::{SymbolItem, TextHead};
@@ -13,7 +12,7 @@ pub(crate) fn text_section(symbols: &Symbols, segment: u32, n: u32) -> Option<Sy
     ensures { result ≡ text_section (symbols_in symbols.now segment) n }
 {
     let section = symbols.at(n)?;
-    if is_text_kind(section.kind) && u32::from(section.segment) == segment {
+    if section.kind.has_text() && u32::from(section.segment) == segment {
         Some(section)
     } else {
         None

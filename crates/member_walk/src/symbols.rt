@@ -2,7 +2,8 @@
 ghost use Rattle.std.specs.Prelude.{◌≡◌, ◌∷◌, [], ◌++◌, ◌<◌, ◌≤◌, ◌-◌, slice_get, unwrap_or, ◌&&◌, ◌==◌, if◌then◌else◌, ℕ, length, nat_eq, Some, IfOk, OnOk, true, false};
 ghost use Rattle.std.specs.HashMap.{get};
 ghost use Rattle.std.specs.Option.{option_map_or};
-ghost use Rattle.member_model.specs.Symbols.{is_text_kind, symbol_at, end_of, section_rank, is_section};
+ghost use Rattle.load_recs.specs.Kinds.{is_text_kind};
+ghost use Rattle.member_model.specs.Symbols.{symbol_at, end_of, section_rank, is_section};
 ghost use Rattle.member_model.specs.Faults.{is_section_outside, label_fault, symbol_fault, symbols_fault};
 ghost use Rattle.load_recs.specs.Items.{symbols_of};
 ghost use Rattle.member_walk.specs.Symbols.{names_text, addresses_of, numbers_of, end_in, number_after, section_address};
@@ -10,7 +11,6 @@ ghost use Rattle.member_walk.specs.Kept.{Keeps};
 
 use crate::attributes::is_overlay_member;
 use crate::faults::Refused;
-use crate::kinds::{is_section_kind, is_text_kind};
 use le_bytes::RecWhat;
 use load_recs::{SymbolItem, SymbolKind, symbol_item};
 use pds_lib::Entry;
@@ -119,7 +119,7 @@ impl Symbols {
         let Some(owner) = self.at(x.length) else {
             return Some(RecWhat::BadEsdid);
         };
-        if !is_text_kind(owner.kind) {
+        if !owner.kind.has_text() {
             return Some(RecWhat::BadEsdid);
         }
         if x.address < owner.address || end_of(&owner) < u64::from(x.address) {
@@ -135,7 +135,7 @@ impl Symbols {
         if x.kind == SymbolKind::Lr {
             return self.label_fault(x);
         }
-        if is_section_kind(x.kind) && self.is_section_outside(e, x) {
+        if x.kind.is_section() && self.is_section_outside(e, x) {
             return Some(RecWhat::SectionOutside);
         }
         None
@@ -223,7 +223,7 @@ fn number_at(numbers: &[usize], n: u32) -> usize
 fn note_address(addresses: &mut Vec<usize>, x: &SymbolItem) -> Result<(), AllocError>
     ensures { OnOk result (addresses.new.items ≡ addresses.old.items ++ section_address x.now) }
 {
-    if is_section_kind(x.kind) {
+    if x.kind.is_section() {
         addresses.push(x.address as usize)?;
     }
     Ok(())
@@ -233,7 +233,7 @@ fn note_address(addresses: &mut Vec<usize>, x: &SymbolItem) -> Result<(), AllocE
 fn note_end(ends: &mut HashMap<u8, u64>, x: &SymbolItem) -> Result<(), AllocError>
     ensures { OnOk result ((segment : ℕ) → get nat_eq ends.new segment ≡ (if is_section x.now && x.now.segment == segment then Some (end_of x.now) else get nat_eq ends.old segment)) }
 {
-    if is_section_kind(x.kind) {
+    if x.kind.is_section() {
         let _ = ends.insert(x.segment, end_of(x))?;
     }
     Ok(())

@@ -106,7 +106,7 @@ fn last_byte(item: &RldItem) -> u32
     requires { IsItem item.now }
     ensures { result ≡ last_byte item.now }
 {
-    item.address + (item.flag / 4 % 4) as u32
+    item.address + u32::from(item.field_length() - 1)
 }
 
 /// A piece of `size` bytes from place `at` of the part on, with these items, whose first chunk takes

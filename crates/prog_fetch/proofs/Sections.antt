@@ -6,7 +6,8 @@ use Rattle.pds_directory.specs.declared.entry.Entry.{Entry}
 use Rattle.load_recs.specs.declared.items.SymbolItem.{SymbolItem}
 use Rattle.load_recs.specs.declared.items.SymbolKind.{SymbolKind}
 use Rattle.load_recs.specs.declared.items.SymbolKind.TheVariants.{Sd, Er, Lr, Pc, Cm, Pr, Null, Wx}
-use Rattle.member_model.specs.Symbols.{is_overlay_member, is_section, is_section_kind, end_of}
+use Rattle.load_recs.specs.Kinds.{is_section_kind}
+use Rattle.member_model.specs.Symbols.{is_overlay_member, is_section, end_of}
 use Rattle.member_model.specs.Faults.{last_end, is_section_outside, symbol_fault, symbols_fault}
 use Rattle.fetch_places.specs.declared.placement.Placement.{Placement}
 use Rattle.fetch_places.specs.declared.placement.Placement.TheVariants.{Block, Scattered}

@@ -17,7 +17,8 @@ use Rattle.load_recs.specs.declared.items.SymbolKind.TheVariants.{Sd, Er, Lr, Pc
 use Rattle.load_recs.specs.declared.items.RldItem.{RldItem}
 use Rattle.load_recs.specs.declared.records.Ends.{Ends}
 use Rattle.load_recs.specs.declared.records.TextHead.{TextHead}
-use Rattle.member_model.specs.Symbols.{is_overlay_member, is_scatter_member, is_section_kind, is_text_kind, is_referable_kind, is_outside, is_outside_kind, symbol_at, end_of, field_length, is_address_kind, is_marked_outside}
+use Rattle.load_recs.specs.Kinds.{is_section_kind, is_text_kind, is_outside_kind}
+use Rattle.member_model.specs.Symbols.{is_overlay_member, is_scatter_member, is_referable_kind, is_outside, symbol_at, end_of, field_length, is_address_kind, is_marked_outside}
 use Rattle.member_model.specs.Facts.{Facts, Text, Field, no_facts, seen, stage_of, ended_by, with_fields, with_contents, with_record}
 use Rattle.member_model.specs.Faults.{first_some, when, is_asked, symbol_fault, symbols_fault, text_section, lies_in, text_fault, fits, shares_wrongly, differ, field_fault, fields_fault, segment_count, ends_wrongly, segment_fault, is_incomplete, kind_fault, place_fault, fault_with, fault}
 use Rattle.member_model.specs.Loaded.{is_shifted}

@@ -1,16 +1,9 @@
-//! Kinds of symbols.
+//! The names under which sections are reported.
 ghost use Rattle.std.specs.Prelude.{◌≡◌};
-ghost use Rattle.member_model.specs.Symbols.{is_section_kind, printed_name};
+ghost use Rattle.member_model.specs.Symbols.{printed_name};
 
 use le_bytes::Name;
 use load_recs::{SymbolItem, SymbolKind};
-
-/// Whether the kind is that of a section: SD, PC or CM.
-pub fn is_section(kind: SymbolKind) -> bool
-    ensures { result ≡ is_section_kind kind }
-{
-    matches!(kind, SymbolKind::Sd | SymbolKind::Pc | SymbolKind::Cm)
-}
 
 /// The name under which a section is printed.
 pub(crate) fn printed_name(section: &SymbolItem) -> Name
