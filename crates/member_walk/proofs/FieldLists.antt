@@ -14,7 +14,8 @@ use Rattle.member_model.specs.Faults.{when, differ, fits, lies_in, text_section,
 use Rattle.member_walk.specs.declared.field_places.Extent.{Extent}
 use Rattle.member_walk.specs.declared.field_places.FieldPlace.{FieldPlace}
 use Rattle.member_walk.specs.declared.fields.SegmentField.{SegmentField}
-use Rattle.member_walk.specs.Fields.{items_of, extent_of, begins_at, extent_at, extent_after, clashes, clash_at, overlaps, place_of, AreAlike, AreHeld, symbols_in}
+use Rattle.member_checks.specs.Segments.{symbols_in}
+use Rattle.member_walk.specs.Fields.{items_of, extent_of, begins_at, extent_at, extent_after, clashes, clash_at, overlaps, place_of, AreAlike, AreHeld}
 
 -- ---- one field more
 
@@ -301,3 +302,41 @@ no_overlap F before x good =
 pub fields_as : (F : Facts) (before items : List RldItem) → fields_fault (symbols_in F.symbols F.segment) before items ≡ fields_fault F before items
 fields_as F before [] = refl
 fields_as F before (x ∷ xs) = ap (option_or (field_fault F before x)) (fields_as F (before ++ x ∷ []) xs)
+
+-- ---- an item alone, and then against the fields before it
+
+pub alone_or_overlapping : (F : Facts) (before : List RldItem) (x : RldItem)
+    → field_fault F before x ≡ option_or (field_fault F [] x) (when (overlaps before x) ConstantsOverlap)
+unfolding overlaps
+alone_or_overlapping F before x =
+    apart (when (not (is_some (text_section F x.p)) || not (fits x (symbol_at F.symbols x.r))) BadEsdid)
+    (when (is_address_kind x && differ (is_marked_outside x) (is_outside (symbol_at F.symbols x.r))) BadFlag)
+    (when (not (lies_in (text_section F x.p) x.address (field_length x))) ConstantOutside)
+    (list_any (shares_wrongly x) before)
+  where
+    apart : (a b c : Option RecWhat) (t : Bool)
+        → option_or a (option_or b (option_or c (option_or (when t ConstantsOverlap) None)))
+        ≡ option_or (option_or a (option_or b (option_or c (option_or (when false ConstantsOverlap) None)))) (when t ConstantsOverlap)
+    apart None None None true = refl
+    apart None None None false = refl
+    apart (Some w) b c t = refl
+    apart None (Some w) c t = refl
+    apart None None (Some w) t = refl
+
+-- the item's own fault comes first
+pub fault_alone : (symbols seen : List SymbolItem) (segment : ℕ) (before : List RldItem) (x : RldItem) (found : Option RecWhat) (what : RecWhat)
+    → seen ≡ symbols → found ≡ field_fault (symbols_in seen segment) [] x → found ≡ Some what
+    → Some what ≡ field_fault (symbols_in symbols segment) before x
+fault_alone symbols seen segment before x found what same judged is =
+    sym (alone_or_overlapping (symbols_in symbols segment) before x
+    ∙ ap (λ o. option_or o (when (overlaps before x) ConstantsOverlap))
+    (sym (ap (λ s. field_fault (symbols_in s segment) [] x) same) ∙ sym judged ∙ is))
+
+-- an item without one is judged against the fields before it
+pub fault_beside : (symbols seen : List SymbolItem) (segment : ℕ) (before : List RldItem) (x : RldItem) (found other : Option RecWhat)
+    → seen ≡ symbols → found ≡ field_fault (symbols_in seen segment) [] x → found ≡ None → other ≡ when (overlaps before x) ConstantsOverlap
+    → other ≡ field_fault (symbols_in symbols segment) before x
+fault_beside symbols seen segment before x found other same judged is beside =
+    beside ∙ sym (alone_or_overlapping (symbols_in symbols segment) before x
+    ∙ ap (λ o. option_or o (when (overlaps before x) ConstantsOverlap))
+    (sym (ap (λ s. field_fault (symbols_in s segment) [] x) same) ∙ sym judged ∙ is))

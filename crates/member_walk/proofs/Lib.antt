@@ -1,9 +1,6 @@
 pub mod Fetching
 pub mod FieldLists
 pub mod HeadLists
-pub mod ItemLists
-pub mod Reading
 pub mod SegmentRecords
-pub mod SymbolLists
 pub mod Textless
 pub mod Walking

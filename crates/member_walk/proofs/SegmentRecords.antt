@@ -11,12 +11,13 @@ use Rattle.member_model.specs.Symbols.{is_scatter_member, is_overlay_member}
 use Rattle.member_model.specs.Facts.{Facts, Field, with_fields}
 use Rattle.member_model.specs.Faults.{when, is_incomplete, text_fault, segment_fault, fields_fault, ends_wrongly}
 use Rattle.member_walk.specs.declared.fields.SegmentField.{SegmentField}
-use Rattle.member_walk.specs.Fields.{field_of, fields_in, items_of, symbols_in}
+use Rattle.member_checks.specs.Segments.{symbols_in}
+use Rattle.member_walk.specs.Fields.{field_of, fields_in, items_of}
 use Rattle.member_walk.proofs.FieldLists.{fields_as}
 use Rattle.member_walk.specs.Segments.{start_fault}
-use Rattle.member_walk.specs.Kept.{Keeps}
-use Rattle.member_walk.specs.declared.faults.Refused.{Refused}
-use Rattle.member_walk.specs.declared.faults.Refused.TheVariants.{What, Memory}
+use Rattle.member_checks.specs.Kept.{Keeps}
+use Rattle.member_checks.specs.declared.refused.Refused.{Refused}
+use Rattle.member_checks.specs.declared.refused.Refused.TheVariants.{What, Memory}
 
 regroup : (a b c d f : Option RecWhat) → option_or a (option_or b (option_or c (option_or d (option_or f None)))) ≡ option_or (option_or a (option_or b (option_or c None))) (option_or d f)
 regroup None None None None None = refl

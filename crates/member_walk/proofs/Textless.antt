@@ -14,8 +14,8 @@ use Rattle.load_recs.specs.declared.records.TextHead.{TextHead}
 use Rattle.member_model.specs.Facts.{Facts, Text, seen, ended_by, with_fields, with_contents, with_record}
 use Rattle.member_model.specs.Faults.{when, fault, fault_with, place_fault, kind_fault, segment_fault, fields_fault, field_fault}
 use Rattle.member_walk.specs.Walked.{without_texts}
-use Rattle.member_walk.specs.Kept.{Keeps}
-use Rattle.member_walk.specs.declared.faults.Refused.{Refused}
+use Rattle.member_checks.specs.Kept.{Keeps}
+use Rattle.member_checks.specs.declared.refused.Refused.{Refused}
 
 -- ---- faults
 

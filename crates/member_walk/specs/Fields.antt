@@ -2,10 +2,9 @@
 use Rattle.std.specs.Prelude.{◌≡◌, ℕ, ◌+◌, Bool, false, not, if◌then◌else◌, ◌&&◌, ◌==◌, nat_lt, List, [], ◌∷◌, map, find, Option, Some, None, option_map}
 use Rattle.std.specs.List.{list_any}
 use Rattle.std.specs.Option.{option_map_or}
-use Rattle.load_recs.specs.declared.items.SymbolItem.{SymbolItem}
 use Rattle.load_recs.specs.declared.items.RldItem.{RldItem}
 use Rattle.member_model.specs.Symbols.{field_kind, field_length}
-use Rattle.member_model.specs.Facts.{Facts, Field, no_facts}
+use Rattle.member_model.specs.Facts.{Field}
 use Rattle.member_model.specs.Faults.{shares_wrongly}
 use Rattle.member_walk.specs.declared.field_places.Extent.{Extent}
 use Rattle.member_walk.specs.declared.field_places.FieldPlace.{FieldPlace}
@@ -71,7 +70,3 @@ AreAlike items (x ∷ xs) = (extent_at items (place_of x) ≡ Some (extent_of x)
 pub record AreHeld (items : List RldItem) (extents : FieldPlace → Option Extent) : Type 0 where
   pub held : (place : FieldPlace) → extents place ≡ extent_at items place
   pub alike : AreAlike items items
-
--- facts that hold these symbols in this segment, and nothing else
-abbrev pub symbols_in : List SymbolItem → ℕ → Facts
-symbols_in symbols segment = record no_facts { symbols = symbols; segment = segment }

@@ -1,6 +1,5 @@
 //! Why a walk ends.
 use le_bytes::RecWhat;
-use std::alloc::{AllocError, AllocFailed};
 
 /// Why a record is not taken.
 #[derive(Clone, Copy, Debug, PartialEq, Eq)]
@@ -10,33 +9,4 @@ pub enum WalkFault {
     At(u32, RecWhat),
     /// A growth was refused.
     Memory,
-}
-
-/// Why a record is not taken, without its number.
-#[derive(Clone, Copy, Debug, PartialEq, Eq)]
-pub(crate) enum Refused {
-    What(RecWhat),
-    Memory,
-}
-
-impl From<AllocError> for Refused {
-    ghost use Rattle.std.specs.Prelude.{◌≡◌};
-    ghost use Rattle.member_walk.specs.declared.faults.Refused.TheVariants.{Memory};
-
-    ghost from_gives = { λ _ e. e ≡ Memory };
-
-    fn from(_refused: AllocError) -> Refused {
-        Refused::Memory
-    }
-}
-
-impl<T: Drop> From<AllocFailed<T>> for Refused {
-    ghost use Rattle.std.specs.Prelude.{◌≡◌};
-    ghost use Rattle.member_walk.specs.declared.faults.Refused.TheVariants.{Memory};
-
-    ghost from_gives = { λ _ e. e ≡ Memory };
-
-    fn from(_refused: AllocFailed<T>) -> Refused {
-        Refused::Memory
-    }
 }

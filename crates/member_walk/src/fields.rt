@@ -4,18 +4,17 @@ ghost use Rattle.std.specs.Option.{option_or};
 ghost use Rattle.std.specs.HashMap.{get};
 ghost use Rattle.member_walk.specs.declared.field_places.FieldPlace.{FieldPlace as PlaceOfField};
 ghost use Rattle.load_recs.specs.Relocations.{rlds_of};
-ghost use Rattle.member_model.specs.Symbols.{field_length, is_address_kind, is_marked_outside, is_outside};
-ghost use Rattle.member_model.specs.Faults.{differ, fits, field_fault, fields_fault};
-ghost use Rattle.member_walk.specs.Kept.{Keeps};
-ghost use Rattle.member_walk.specs.Fields.{items_of, clash_at, extent_after, fields_in, overlaps, place_eq, symbols_in};
+ghost use Rattle.le_bytes.specs.declared.record_what.RecWhat.TheVariants.{ConstantsOverlap};
+ghost use Rattle.member_model.specs.Symbols.{field_length};
+ghost use Rattle.member_model.specs.Faults.{field_fault, fields_fault, when};
+ghost use Rattle.member_checks.specs.Kept.{Keeps};
+ghost use Rattle.member_checks.specs.Segments.{symbols_in};
+ghost use Rattle.member_walk.specs.Fields.{items_of, clash_at, extent_after, fields_in, overlaps, place_eq};
 
-use crate::faults::Refused;
 use crate::field_places::{Extent, FieldPlace, clashes, extent_of, place_of};
-use crate::kinds::{is_referable_kind, is_register_kind};
-use crate::segments::{lies_in, text_section};
-use crate::symbols::Symbols;
 use le_bytes::RecWhat;
-use load_recs::{RldItem, SymbolItem, rld_items};
+use load_recs::{RldItem, rld_items};
+use member_checks::{Refused, Symbols, item_fault};
 use std::alloc::{AllocError, Global};
 use std::collections::HashMap;
 use std::marker::Model;
@@ -80,26 +79,25 @@ impl Fields {
         any_clashes(&self.extents, x)
     }
 
+    /// `ConstantsOverlap` where a field shares a byte with the item's field, and may not.
+    fn overlap_fault(&self, x: &RldItem) -> Option<RecWhat>
+        ensures { result ≡ when (overlaps (items_of self.now) x.now) ConstantsOverlap }
+    {
+        if self.overlaps(x) {
+            Some(RecWhat::ConstantsOverlap)
+        } else {
+            None
+        }
+    }
+
     /// What is wrong with an item that comes after these in a segment.
-    #[tactic(auto, unfolding(crate::specs::Fields::overlaps))]
     fn fault(&self, symbols: &Symbols, segment: u32, x: &RldItem) -> Option<RecWhat>
         ensures { result ≡ field_fault (symbols_in symbols.now segment) (items_of self.now) x.now }
     {
-        let section = text_section(symbols, segment, x.p);
-        let symbol = symbols.at(x.r);
-        if section.is_none() || !fits(x, symbol) {
-            return Some(RecWhat::BadEsdid);
+        match item_fault(symbols.as_slice(), segment, x) {
+            Some(what) => Some(what),
+            None => self.overlap_fault(x),
         }
-        if is_marked_wrongly(x, symbol) {
-            return Some(RecWhat::BadFlag);
-        }
-        if !lies_in(section, x.address, u32::from(x.field_length())) {
-            return Some(RecWhat::ConstantOutside);
-        }
-        if self.overlaps(x) {
-            return Some(RecWhat::ConstantsOverlap);
-        }
-        None
     }
 
     /// The items with one more.
@@ -183,34 +181,4 @@ fn note_extent(extents: &mut HashMap<FieldPlace, Extent>, x: &RldItem) -> Result
         let _ = extents.insert(place, extent_of(x))?;
     }
     Ok(())
-}
-
-/// Whether the symbol is of a kind that fits the item. That of a total is not looked at.
-fn fits(x: &RldItem, symbol: Option<SymbolItem>) -> bool
-    ensures { result ≡ fits x.now symbol }
-{
-    let Some(symbol) = symbol else {
-        return x.field_kind() > 2;
-    };
-    if x.is_address_kind() {
-        return is_referable_kind(symbol.kind);
-    }
-    x.field_kind() > 2 || is_register_kind(symbol.kind)
-}
-
-/// Whether the item says of its symbol that it is defined, or is not, and is wrong.
-fn is_marked_wrongly(x: &RldItem, symbol: Option<SymbolItem>) -> bool
-    ensures { result ≡ (is_address_kind x.now && differ (is_marked_outside x.now) (is_outside symbol)) }
-{
-    x.is_address_kind() && x.is_marked_outside() != is_outside(symbol)
-}
-
-/// Whether there is a symbol, which is not defined.
-fn is_outside(symbol: Option<SymbolItem>) -> bool
-    ensures { result ≡ is_outside symbol }
-{
-    match symbol {
-        Some(symbol) => symbol.kind.is_outside(),
-        None => false,
-    }
 }

@@ -11,21 +11,17 @@ ghost use Rattle.member_model.specs.FirstBad.{is_entry_section};
 ghost use Rattle.member_walk.specs.Walked.{without_texts};
 ghost use Rattle.member_walk.specs.Fields.{field_of};
 ghost use Rattle.member_walk.specs.Segments.{start_fault};
-ghost use Rattle.member_walk.specs.Heads.{HasFewItems};
-ghost use Rattle.member_walk.specs.Kept.{Keeps};
+ghost use Rattle.member_checks.specs.Heads.{HasFewItems};
+ghost use Rattle.member_checks.specs.Kept.{Keeps};
 
-use crate::attributes::{is_overlay_member, is_scatter_member};
-use crate::faults::Refused;
 use crate::fields::{Fields, SegmentField};
-use crate::heads::head_of;
-use crate::matching::{scattered_after, translated_after};
-use crate::notes::with_notes;
 use crate::parts::WalkParts;
-use crate::segments::text_fault;
-use crate::stages::{Stage, is_asked, stage_of};
-use crate::symbols::{Symbols, end_of};
 use le_bytes::{Items, RecWhat};
 use load_recs::{Ends, NoteItem, Rec, SymbolItem, TextHead};
+use member_checks::{
+    Refused, Stage, Symbols, end_of, head_of, is_asked, scattered_after, stage_of, text_fault,
+    translated_after, with_notes,
+};
 use pds_lib::Entry;
 use std::alloc::Global;
 use std::marker::Model;
@@ -54,7 +50,7 @@ impl Model for Gathered {
     ghost use Rattle.std.specs.Prelude.{[], map};
     ghost use Rattle.member_model.specs.Facts.{Facts};
     ghost use Rattle.member_walk.specs.Fields.{field_of};
-    ghost use Rattle.member_walk.specs.Stages.{place_of};
+    ghost use Rattle.member_checks.specs.Stages.{place_of};
 
     ghost Value = { Facts };
 
@@ -173,7 +169,7 @@ impl Gathered {
         })
     }
 
-    #[tactic(auto, unfolding(crate::specs::Symbols::addresses_of, crate::specs::Matching::count_after))]
+    #[tactic(auto, unfolding(member_checks::specs::Symbols::addresses_of, member_checks::specs::Matching::count_after))]
     fn with_scatter(self, e: &Entry, first: u32, items: &[u8]) -> Result<Gathered, Refused>
         requires { length items.now ≤ 240 }
         ensures { Keeps (kind_fault e.now self (ScatterRecord first items.now)) (with_contents self (ScatterRecord first items.now)) result }
@@ -191,7 +187,7 @@ impl Gathered {
         }
     }
 
-    #[tactic(auto, unfolding(crate::specs::Symbols::numbers_of, crate::specs::Matching::count_after))]
+    #[tactic(auto, unfolding(member_checks::specs::Symbols::numbers_of, member_checks::specs::Matching::count_after))]
     fn with_translation(self, e: &Entry, first: u32, items: &[u8]) -> Result<Gathered, Refused>
         requires { length items.now ≤ 240 }
         ensures { Keeps (kind_fault e.now self (TranslationRecord first items.now)) (with_contents self (TranslationRecord first items.now)) result }
@@ -221,7 +217,7 @@ impl Gathered {
     }
 
     /// Whether some section has no scatter item yet.
-    #[tactic(auto, using(crate::proofs::SymbolLists::sections_counted))]
+    #[tactic(auto, using(member_checks::proofs::SymbolLists::sections_counted))]
     fn lacks_scatter(&self) -> bool
         ensures { result ≡ lacks_scatter self.now }
     {
@@ -239,11 +235,7 @@ impl Gathered {
     fn segment_count(&self, e: &Entry) -> usize
         ensures { result ≡ segment_count e.now self.now }
     {
-        if is_overlay_member(e) {
-            self.notes.len()
-        } else {
-            1
-        }
+        if e.is_overlay() { self.notes.len() } else { 1 }
     }
 
     /// Whether the module ends before its last segment, or that segment without it.
@@ -259,13 +251,13 @@ impl Gathered {
     fn start_fault(&self, e: &Entry, text: Option<TextHead>) -> Option<RecWhat>
         ensures { result ≡ start_fault e.now self.now text }
     {
-        if is_scatter_member(e) && self.is_incomplete() {
+        if e.is_scatter() && self.is_incomplete() {
             return Some(RecWhat::BadScatter);
         }
-        if is_overlay_member(e) && self.notes.is_empty() {
+        if e.is_overlay() && self.notes.is_empty() {
             return Some(RecWhat::BadOrder);
         }
-        text_fault(&self.symbols, self.segment, &text?)
+        text_fault(self.symbols.as_slice(), self.segment, &text?)
     }
 
     /// The items with the relocation items of a record of a segment, if nothing is wrong with it.

@@ -2,20 +2,12 @@
 //! before it and keeps what later records and the module's users need. Text is not kept.
 #![tactic(auto)]
 
-mod attributes;
 mod faults;
 mod field_places;
 mod fields;
 mod gathered;
-mod heads;
-mod kinds;
 mod laws;
-mod matching;
-mod notes;
 mod parts;
-mod segments;
-mod stages;
-mod symbols;
 mod walk;
 
 pub use faults::WalkFault;

@@ -9,14 +9,13 @@ ghost use Rattle.member_walk.specs.Walked.{walked_of, IsWalked};
 ghost use Rattle.member_walk.specs.Steps.{head_bad, end_bad, Steps};
 ghost use Rattle.member_walk.specs.Told.{text_told, fault_told, IsFirstFault, is_fetched_on, is_fetched_whole};
 
-use crate::attributes::is_overlay_member;
-use crate::faults::{Refused, WalkFault};
+use crate::faults::WalkFault;
 use crate::fields::SegmentField;
 use crate::gathered::Gathered;
-use crate::heads::{begins_with_symbols, head_of};
 use crate::parts::{TextPlace, WalkParts};
 use le_bytes::RecWhat;
 use load_recs::{NoteItem, SymbolItem, TextHead};
+use member_checks::{Refused, begins_with_symbols, head_of};
 use pds_lib::Entry;
 use std::alloc::Global;
 use std::marker::Model;
@@ -246,7 +245,7 @@ impl Walk {
     pub fn is_fetched_on(&self, e: &Entry) -> bool
         ensures { result ≡ is_fetched_on e.now self.now }
     {
-        !is_overlay_member(e) || self.gathered.segment() == 1
+        !e.is_overlay() || self.gathered.segment() == 1
     }
 
     /// Whether what a fetch has to read has come: of an overlay member segment 1, of any other member
@@ -254,7 +253,7 @@ impl Walk {
     pub fn is_fetched_whole(&self, e: &Entry) -> bool
         ensures { result ≡ is_fetched_whole e.now self.now }
     {
-        if is_overlay_member(e) {
+        if e.is_overlay() {
             self.gathered.segment() > 1
         } else {
             self.gathered.ended()

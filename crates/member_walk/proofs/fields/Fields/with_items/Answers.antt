@@ -1,5 +1,6 @@
 use Rattle.std.proofs.Common.{sym, ◌∙◌}
-use Rattle.member_walk.specs.Fields.{items_of, symbols_in}
+use Rattle.member_checks.specs.Segments.{symbols_in}
+use Rattle.member_walk.specs.Fields.{items_of}
 use Rattle.member_walk.proofs.FieldLists.{no_overlap}
 use Rattle.member_walk.proofs.fields.Fields.with_items.Goals as goal
 

@@ -2,7 +2,8 @@ use Rattle.std.proofs.Common.{◌≡◌, ◌++◌, map}
 use Rattle.load_recs.specs.RldItems.{items_left}
 use Rattle.load_recs.specs.Relocations.{rlds_of}
 use Rattle.member_model.specs.Faults.{fields_fault}
-use Rattle.member_walk.specs.Fields.{items_of, fields_in, symbols_in}
+use Rattle.member_checks.specs.Segments.{symbols_in}
+use Rattle.member_walk.specs.Fields.{items_of, fields_in}
 use Rattle.member_walk.proofs.fields.Fields.with_items.Given as goal
 
 abbrev pub invariant-loop-x : goal.invariant-loop-x

@@ -4,8 +4,9 @@ use Rattle.le_bytes.specs.declared.record_what.RecWhat.TheVariants.{BadOrder}
 use Rattle.load_recs.specs.Relocations.{rlds_of}
 use Rattle.member_model.specs.Facts.{Facts, with_fields}
 use Rattle.member_model.specs.Faults.{when, ends_wrongly, fields_fault}
-use Rattle.member_walk.specs.Fields.{field_of, fields_in, items_of, symbols_in}
-use Rattle.member_walk.specs.Kept.{Keeps}
+use Rattle.member_checks.specs.Segments.{symbols_in}
+use Rattle.member_walk.specs.Fields.{field_of, fields_in, items_of}
+use Rattle.member_checks.specs.Kept.{Keeps}
 use Rattle.member_walk.proofs.SegmentRecords.{fields_judged, fields_added, keeps_first}
 use Rattle.member_walk.proofs.gathered.Gathered.with_judged_fields.Goals as goal
 

@@ -1,0 +1,7 @@
+use Rattle.std.proofs.Common.{◌≡◌, drop}
+use Rattle.load_recs.specs.Items.{scatters_of}
+use Rattle.member_checks.specs.Matching.{begins}
+use Rattle.member_checks.proofs.matching.are_next_scatters.Given as goal
+
+abbrev pub invariant-loop-k : goal.invariant-loop-k
+invariant-loop-k l = begins (drop l.k (scatters_of l.items)) (drop l.k l.wanted) ≡ begins (scatters_of l.items) l.wanted

@@ -1,7 +1,0 @@
-use Rattle.std.proofs.Common.{◌≡◌, drop}
-use Rattle.load_recs.specs.Items.{translations_of}
-use Rattle.member_walk.specs.Matching.{begins}
-use Rattle.member_walk.proofs.matching.are_next_translations.Given as goal
-
-abbrev pub invariant-loop-k : goal.invariant-loop-k
-invariant-loop-k l = begins (drop l.k (translations_of l.items)) (drop l.k l.wanted) ≡ begins (translations_of l.items) l.wanted
