@@ -1,5 +1,5 @@
 //! The terms of a constant.
-ghost use Rattle.std.specs.Prelude.{◌≡◌, ◌++◌, ◌∷◌, [], length, OnOk};
+ghost use Rattle.std.specs.Prelude.{◌≡◌, ◌++◌, ◌∷◌, [], OnOk, OnErr};
 
 use smallvec::SmallVec;
 use std::alloc::{AllocError, Global};
@@ -22,17 +22,11 @@ impl<T> Model for Terms<T> {
 }
 
 impl<T> Terms<T> {
+    /// The terms, in order.
     pub fn as_slice(&self) -> &[T]
         ensures { result.now ≡ self.now }
     {
         self.inner.as_slice()
-    }
-
-    /// The number of terms.
-    pub fn len(&self) -> usize
-        ensures { result ≡ length self.now }
-    {
-        self.inner.as_slice().len()
     }
 }
 
@@ -49,9 +43,10 @@ impl<T: MadeWith<Global> + Drop> Terms<T> {
     /// Puts a term at the end.
     ///
     /// # Errors
-    /// Want of memory, never of the first term.
+    /// Out of memory, never of the first term. The terms are as before.
     pub fn push(&mut self, term: T) -> Result<(), AllocError>
-        ensures { OnOk result (self.new ≡ self.old ++ term ∷ []) }
+        ensures added { OnOk result (self.new ≡ self.old ++ term ∷ []) }
+        ensures kept { OnErr result (self.new ≡ self.old) }
     {
         self.inner.push(term)?;
         Ok(())
