@@ -1,3 +1,4 @@
+pub mod Fresh
 pub mod Lists
 pub mod Parts
 pub mod Rising

@@ -1,5 +1,5 @@
 //! Some of the symbols, in an order of their own.
-ghost use Rattle.std.specs.Prelude.{◌≡◌, ◌<◌, ◌++◌, ◌∷◌, Some, false, not, [], length, map, position, OnOk, OnErr, IfOk, IfSome};
+ghost use Rattle.std.specs.Prelude.{◌≡◌, ◌<◌, ◌++◌, ◌∷◌, Some, false, not, [], length, map, drop, position, OnOk, OnErr, IfOk, IfSome};
 ghost use Rattle.std.specs.List.{list_any};
 ghost use Rattle.linking_model.specs.Names.{with_first};
 ghost use Rattle.linking_model.specs.Kept.{symbol_eq};
@@ -156,6 +156,13 @@ impl Subset {
             Some(at) => self.place_by(at, key),
             None => None,
         }
+    }
+
+    /// The symbols that came after the mark, in order.
+    pub(crate) fn fresh(&self) -> &[Key]
+        ensures { map as_symbol result.now ≡ drop (length self.now.marked) self.now.all }
+    {
+        &self.keys.as_slice()[self.mark..]
     }
 
     /// The symbols, in order.

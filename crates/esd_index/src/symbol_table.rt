@@ -1,5 +1,5 @@
 //! All symbols, and which of them are of some kind.
-ghost use Rattle.std.specs.Prelude.{◌≡◌, ◌<◌, Some, not, [], length, map, position, option_map, OnOk, OnErr, IfOk, IfSome};
+ghost use Rattle.std.specs.Prelude.{◌≡◌, ◌<◌, Some, not, [], length, map, drop, position, option_map, OnOk, OnErr, IfOk, IfSome};
 ghost use Rattle.std.specs.List.{list_any};
 ghost use Rattle.linking_model.specs.Kept.{symbol_eq};
 ghost use Rattle.esd_index.specs.Keys.{as_symbol};
@@ -171,6 +171,13 @@ impl SymbolTable {
         ensures within { IfSome result (λ place. place < length self.now.controls.all) }
     {
         self.controls.place(&self.symbols, key)
+    }
+
+    /// The names of references that are not weak and that came after the mark, in the order of the first.
+    pub fn fresh_strong(&self) -> &[Key]
+        ensures { map as_symbol result.now ≡ drop (length self.now.strong.marked) self.now.strong.all }
+    {
+        self.strong.fresh()
     }
 
     /// Whether a symbol is a section.

@@ -1,5 +1,5 @@
 //! A growing list of symbols without repeats.
-ghost use Rattle.std.specs.Prelude.{◌≡◌, not, ◌<◌, ◌+◌, ◌≤◌, [], ◌∷◌, ◌^◌, Some, length, map, position, option_map, OnOk, OnErr, IfOk, IfSome};
+ghost use Rattle.std.specs.Prelude.{◌≡◌, not, ◌<◌, ◌+◌, ◌≤◌, [], ◌∷◌, ◌^◌, Some, length, map, drop, position, option_map, OnOk, OnErr, IfOk, IfSome};
 ghost use Rattle.std.specs.List.{list_any};
 ghost use Rattle.linking_model.specs.Names.{with_first};
 ghost use Rattle.linking_model.specs.Kept.{symbol_eq};
@@ -102,6 +102,20 @@ impl Symbols {
         ensures { self.new ≡ record { all = self.old.marked; marked = self.old.marked } }
     {
         self.keys.truncate(self.mark);
+    }
+
+    /// How many symbols there were at the mark.
+    pub fn marked_len(&self) -> usize
+        ensures { result ≡ length self.now.marked }
+    {
+        self.mark
+    }
+
+    /// The symbols that came after the mark, in order.
+    pub fn fresh(&self) -> &[Key]
+        ensures { map as_symbol result.now ≡ drop (length self.now.marked) self.now.all }
+    {
+        &self.keys.as_slice()[self.mark..]
     }
 
     /// Whether the symbol is there.
