@@ -391,7 +391,7 @@ defined_is rs y =
     (ap (λ (b : Bool). is_some (section_number rs (ByName y)) || b) (sym (position_found (λ (x : Label). name_eq x.name y) (labels rs)))
     ∙ sym (defined_case rs y (section_number rs (ByName y)) (position (λ (x : Label). name_eq x.name y) (labels rs)) refl refl))
 
-unknown_is : (rs : List Read) (y : Symbol) → unknown_by (content_of rs) y ≡ unknown_of rs y
+pub unknown_is : (rs : List Read) (y : Symbol) → unknown_by (content_of rs) y ≡ unknown_of rs y
 unfolding unknown_by
 unknown_is rs (ByName y) = rw (referenced_is rs y, defined_is rs y, weak_name_is rs y) refl
 unknown_is rs (Private k i) = refl

@@ -159,7 +159,7 @@ none_within n j (x ∷ xs) all =
     low : (a b : ℕ) → a < n → (a == n && b == j) ≡ false
     low a b h = grind (arith, nat_tests)
 
-abbrev marks : List Read → SymModule → List Bool
+abbrev pub marks : List Read → SymModule → List Bool
 marks rs m = kept_flags (firsts symbol_eq (filter_map (λ (x : Sight). named_if is_sd x.item) (sights rs))) m.items
 
 flags_at : (rs : List Read) (m : SymModule) (s i : ℕ)
@@ -239,13 +239,13 @@ same_contents c d symbols like named labelled =
     same_fields c.symbols c.sections c.registers c.controls c.labels c.strong c.weak c.named c.labelled d.symbols d.sections d.registers d.controls d.labels d.strong d.weak d.named d.labelled
     symbols like.sections like.registers like.controls like.labels like.strong like.weak named labelled
 
-abbrev contents_before : List Read → SymModule → Contents
+abbrev pub contents_before : List Read → SymModule → Contents
 contents_before rs m = fold with_control (content_of rs) m.items
 
-abbrev contents_sighted : List Read → SymModule → ℕ → Contents
+abbrev pub contents_sighted : List Read → SymModule → ℕ → Contents
 contents_sighted rs m s = fold (with_sight (marks rs m)) (contents_before rs m) (sights_in (length rs) s 0 m.items)
 
-abbrev contents_after : List Read → SymModule → ℕ → Contents
+abbrev pub contents_after : List Read → SymModule → ℕ → Contents
 contents_after rs m s = fold (with_constant m.items) (contents_sighted rs m s) (kept_in_order (marks rs m) m.constants)
 
 after_symbols : (rs : List Read) (m : SymModule) (s : ℕ) → (contents_after rs m s).symbols ≡ appearance (with_module rs m s)
@@ -334,7 +334,7 @@ sighted_like rs m s = record {
   weak = item_field rs m s (λ c. c.weak) (λ x. named_if is_wx x.item) section_symbol (content_of (with_module rs m s)).weak (λ c x. refl) (λ c x. refl) (sights_more (λ x. named_if is_wx x.item) rs m s);
 }
 
-after_is : (rs : List Read) (m : SymModule) (s : ℕ) → contents_after rs m s ≡ content_of (with_module rs m s)
+pub after_is : (rs : List Read) (m : SymModule) (s : ℕ) → contents_after rs m s ≡ content_of (with_module rs m s)
 unfolding content_of
 after_is rs m s =
     let like = constants_like m.items (contents_sighted rs m s) (kept_in_order (marks rs m) m.constants) in

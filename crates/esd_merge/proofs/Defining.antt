@@ -14,7 +14,7 @@ use Rattle.linking_model.specs.Merged.{label_at, is_label_named, label_of, label
 use Rattle.esd_index.specs.Contents.{Contents}
 use Rattle.esd_lists.specs.Indexed.{kept_label, content_of}
 use Rattle.esd_lists.specs.Listed.{has}
-use Rattle.esd_lists.proofs.Firsts.{name_sym, any_firsts}
+use Rattle.esd_lists.proofs.Firsts.{name_same, name_sym, any_firsts}
 use Rattle.esd_lists.proofs.Sights.{any_find, find_passes, find_among}
 use Rattle.esd_lists.proofs.Unknowns.{any_label, kept_label_named, one_answer, head_any, head_some, head_name, some_map, both_true}
 use Rattle.esd_merge.specs.Rest.{label_from}
@@ -86,3 +86,20 @@ at_label rs c y is none =
     let here : label_from (content_of rs) y 0 (content_of rs).symbols ≡ option_map AtLabel (position (λ (x : Label). name_eq x.name y) (labels rs)) =
     ap (label_from (content_of rs) y 0) (symbols_are rs) ∙ labels_from rs y 0 (appearance rs) ∙ ap (option_map AtLabel) (sym (position_from-zero (λ (x : Label). name_eq x.name y) (labels rs))) in
     rw is (here ∙ at_case rs y (position (λ (x : Label). name_eq x.name y) (labels rs)) none refl)
+
+no_case : (c : Contents) (y z : Name) (n : ℕ) (ss : List Symbol) (b : Bool) → name_eq z y ≡ b → has c.labels y ≡ false → ((m : ℕ) → label_from c y m ss ≡ None)
+    → cond (has c.labels z) (cond b (Some (AtLabel n)) (label_from c y (n + 1) ss)) (label_from c y n ss) ≡ None
+no_case c y z n ss true d none more =
+    let same : z ≡ y = name_same z y d in
+    rw (same, none) (more n)
+no_case c y z n ss false d none more = both (has c.labels z)
+  where
+    both : (b : Bool) → cond b (label_from c y (n + 1) ss) (label_from c y n ss) ≡ None
+    both true = more (n + 1)
+    both false = more n
+
+-- no label has a name that is not among those of labels
+pub no_label : (c : Contents) (y : Name) (n : ℕ) (ss : List Symbol) → has c.labels y ≡ false → label_from c y n ss ≡ None
+no_label c y n [] none = refl
+no_label c y n (ByName z ∷ ss) none = no_case c y z n ss (name_eq z y) refl none (λ m. no_label c y m ss none)
+no_label c y n (Private k i ∷ ss) none = no_label c y n ss none

@@ -46,17 +46,17 @@ no_double rs (Some y) e none = absurd (cc (rw e at none))
 pub no_clash : (rs : List Read) → merge_fault rs ≡ None → double_definition rs ≡ None
 no_clash rs none = no_double rs (double_definition rs) refl none
 
-err_answer : (rs : List Read) (m : SymModule) (s : ℕ) (old new : Contents) (f : MergeFault) → fault_of (noted_module (length rs) s m old) ≡ merge_fault (with_module rs m s)
-    → Enters m old (noted_module (length rs) s m old) (Err f) new → AddAnswer rs m s (Err f) rs
-err_answer rs m s old new Memory same enters = refl
-err_answer rs m s old new (DoubleDefinition y) same enters = (sym same ∙ enters, refl)
-err_answer rs m s old new (TooManySymbols n) same enters = (sym same ∙ enters, refl)
+err_answer : (A : Type 0) (rs : List Read) (m : SymModule) (s : ℕ) (old new : Contents) (f : MergeFault) → fault_of (noted_module (length rs) s m old) ≡ merge_fault (with_module rs m s)
+    → Enters m old (noted_module (length rs) s m old) (Err f) new → AddAnswer {A = A} rs m s (Err f) rs
+err_answer A rs m s old new Memory same enters = refl
+err_answer A rs m s old new (DoubleDefinition y) same enters = (sym same ∙ enters, refl)
+err_answer A rs m s old new (TooManySymbols n) same enters = (sym same ∙ enters, refl)
 
 -- a module that makes a fault is not added
-pub refused : (rs : List Read) (m : SymModule) (s : ℕ) (old new : Contents) (f : MergeFault) → merge_fault rs ≡ None → old ≡ content_of rs
-    → Enters m old (noted_module (length rs) s m old) (Err f) new → AddAnswer rs m s (Err f) rs
-refused rs m s old new f none is enters =
-    err_answer rs m s old new f (rw is (fault_is rs m s (no_clash rs none))) enters
+pub refused : (A : Type 0) (rs : List Read) (m : SymModule) (s : ℕ) (old new : Contents) (f : MergeFault) → merge_fault rs ≡ None → old ≡ content_of rs
+    → Enters m old (noted_module (length rs) s m old) (Err f) new → AddAnswer {A = A} rs m s (Err f) rs
+refused A rs m s old new f none is enters =
+    err_answer A rs m s old new f (rw is (fault_is rs m s (no_clash rs none))) enters
 
 -- what holds where a module is added
 pub record IsAdded (rs : List Read) (m : SymModule) (s : ℕ) (kept : List Bool) (new : Contents) : Type 0 where

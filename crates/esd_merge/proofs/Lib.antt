@@ -15,3 +15,4 @@ pub mod SoundLists
 pub mod SoundTargets
 pub mod SoundTexts
 pub mod Sound
+pub mod Callable

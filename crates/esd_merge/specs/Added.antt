@@ -21,7 +21,7 @@ merge_fault rs = double_fault (double_definition rs)
     double_fault None = if nat_lt 32511 (symbol_count rs) then Some (TooManySymbols (symbol_count rs)) else None
 
 -- the module is added where it makes no fault; after a fault the modules are as before
-abbrev pub AddAnswer : List Read → SymModule → ℕ → Result (Unit {0}) MergeFault → List Read → Type 0
+abbrev pub AddAnswer : {A : Type 0} → List Read → SymModule → ℕ → Result A MergeFault → List Read → Type 0
 AddAnswer old m s (Ok _) new = (merge_fault (with_module old m s) ≡ None) × (new ≡ with_module old m s)
 AddAnswer old m s (Err Memory) new = new ≡ old
 AddAnswer old m s (Err f) new = (merge_fault (with_module old m s) ≡ Some f) × (new ≡ old)

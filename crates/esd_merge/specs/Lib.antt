@@ -1,4 +1,5 @@
 pub mod Added
+pub mod Calls
 pub mod Entered
 pub mod Inside
 pub mod Left

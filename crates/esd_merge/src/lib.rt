@@ -3,6 +3,7 @@
 #![tactic(auto)]
 
 mod bringing;
+mod calls;
 mod defined;
 mod entering;
 mod fault;
@@ -11,6 +12,7 @@ mod program;
 mod tabled;
 mod unres;
 
+pub use calls::callable_in_order;
 pub use defined::Defined;
 pub use fault::MergeFault;
 pub use merged::Merged;

@@ -76,8 +76,21 @@ fn has_label(index: &Index, key: &Key) -> bool
     }
 }
 
+/// The label of a name, where one has it.
+#[tactic(auto, using(crate::proofs::Defining::no_label))]
+pub(crate) fn label(index: &Index, name: &Name) -> Option<Defined>
+    requires { IsNumbered (now_of index.now) }
+    ensures { target_of result ≡ label_from (now_of index.now) name.now 0 (now_of index.now).symbols }
+{
+    if index.labels.has(&Key::Named(*name)) {
+        label_number(index, name)
+    } else {
+        None
+    }
+}
+
 /// The label of a name: its place among the symbols that have a label.
-pub(crate) fn label_number(index: &Index, name: &Name) -> Option<Defined>
+fn label_number(index: &Index, name: &Name) -> Option<Defined>
     requires { IsNumbered (now_of index.now) }
     ensures { target_of result ≡ label_from (now_of index.now) name.now 0 (now_of index.now).symbols }
 {

@@ -11,8 +11,8 @@ use Rattle.esd_merge.proofs.merged.Merged.define.Goals as goal
 pub section_near-requires : goal.section_near-requires
 section_near-requires c = is_small (map as_read c.self.inside.reads.items) (now_of c.self.inside.index) c.self.invariant.merged c.self.invariant.indexed
 
-pub label_number-requires : goal.label_number-requires
-label_number-requires c = is_small (map as_read c.self.inside.reads.items) (now_of c.self.inside.index) c.self.invariant.merged c.self.invariant.indexed
+pub label-requires : goal.label-requires
+label-requires c = is_small (map as_read c.self.inside.reads.items) (now_of c.self.inside.index) c.self.invariant.merged c.self.invariant.indexed
 
 pub returns-in-Some : goal.returns-in-Some
 returns-in-Some c =
@@ -26,4 +26,4 @@ returns-in-None c =
     let rs : List Read = map as_read c.self.inside.reads.items in
     let number : section_number rs (ByName c.args.n.now) ≡ None =
     ap (position (symbol_eq (ByName c.args.n.now))) (sym (number_is rs (now_of c.self.inside.index) c.self.invariant.indexed)) ∙ sym c.section_near.ensures ∙ c.in-None.is in
-    c.label_number.ensures ∙ at_label rs (now_of c.self.inside.index) c.args.n.now c.self.invariant.indexed number ∙ ap (λ (zs : List Read). definition zs c.args.n.now) c.self.view_is
+    c.label.ensures ∙ at_label rs (now_of c.self.inside.index) c.args.n.now c.self.invariant.indexed number ∙ ap (λ (zs : List Read). definition zs c.args.n.now) c.self.view_is
