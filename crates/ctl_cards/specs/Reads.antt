@@ -1,5 +1,5 @@
 -- What the methods that read an operand have read, and where they stopped.
-use Rattle.std.specs.Prelude.{◌≡◌, ℕ, ◌+◌, ◌<◌, ◌≤◌, Bool, true, false, if◌then◌else◌, List, [], ◌∷◌, ◌++◌, Option, Some, None, Result, Ok, Err}
+use Rattle.std.specs.Prelude.{◌≡◌, ℕ, ◌+◌, ◌<◌, ◌≤◌, Bool, true, false, if◌then◌else◌, List, [], ◌∷◌, ◌++◌, Option, Some, None, Result, Ok, Err, MatchBool}
 use Rattle.le_bytes.specs.declared.name.Name.{Name}
 use Rattle.ctl_cards.specs.Cards.{IsWhole, continued_count, first_unfit}
 use Rattle.ctl_cards.specs.declared.statement.StmtFault.{StmtFault}
@@ -44,6 +44,10 @@ abbrev pub ReadsNames : List ℕ → Result (List Name) Stop → List ℕ → Ty
 ReadsNames old (Ok ns) new = TakesNames old ns new
 ReadsNames old (Err Bad) new = (f : Form) → takes_several f.within ≡ true → stop_of f AtName old ≡ Some new
 ReadsNames old (Err Memory) new = Unit {0}
+
+-- the character b is the next one and is taken, or stays
+abbrev pub TakesMark : ℕ → List ℕ → Bool → List ℕ → Type 0
+TakesMark b old taken new = MatchBool taken (old ≡ b ∷ new) (NotNext b old × (new ≡ old))
 
 abbrev pub Expects : ℕ → List ℕ → Result (Unit {0}) Stop → List ℕ → Type 0
 Expects b old (Ok u) new = old ≡ b ∷ new

@@ -2,7 +2,7 @@
 ghost use Rattle.std.specs.Prelude.{◌≡◌, ◌+◌, ◌<◌, ◌≤◌, [], ◌∷◌, ◌++◌, List, length, take, IsTrue, ◌↔◌, MatchBool, Result, Ok, Err, slice_get, true, false};
 ghost use Rattle.std.specs.List.{prefix_len};
 ghost use Rattle.ctl_cards.specs.NameTexts.{begins_name, stands_in_name};
-ghost use Rattle.ctl_cards.specs.Reads.{ReadsName, ReadsNames, Expects, ReadsWord, EndsHere};
+ghost use Rattle.ctl_cards.specs.Reads.{ReadsName, ReadsNames, Expects, ReadsWord, EndsHere, TakesMark};
 ghost use Rattle.ctl_cards.specs.Letters.{name_length, cell, name_with, NotNext};
 ghost use Rattle.ctl_cards.specs.declared.operand.Stop.TheVariants.{Memory};
 
@@ -41,7 +41,7 @@ pub struct Operand<'a> {
 impl Operand<'_> {
     /// Takes the character `b`, if it is the next one.
     pub fn take(&mut self, b: u8) -> bool
-        ensures { MatchBool result (self.old.rest.now ≡ b ∷ self.new.rest.now) (NotNext b self.old.rest.now × (self.new.rest.now ≡ self.old.rest.now)) }
+        ensures { TakesMark b self.old.rest.now result self.new.rest.now }
     {
         match self.rest {
             [first, rest @ ..] if *first == b => {

@@ -1,5 +1,5 @@
 -- The directory, block by block and entry by entry, with its first fault.
-use Rattle.std.specs.Prelude.{ℕ, zero, suc, ◌+◌, ◌-◌, ◌*◌, ◌%◌, Bool, true, false, not, ◌&&◌, ◌||◌, ◌==◌, nat_lt, nat_le, if◌then◌else◌, List, [], ◌∷◌, ◌++◌, length, drop, slice_index, slice_get, slice_range, Option, Some, None, Result, Ok, Err}
+use Rattle.std.specs.Prelude.{◌≡◌, ℕ, zero, suc, ◌+◌, ◌-◌, ◌*◌, ◌%◌, Bool, true, false, not, ◌&&◌, ◌||◌, ◌==◌, nat_lt, nat_le, if◌then◌else◌, List, [], ◌∷◌, ◌++◌, length, drop, slice_index, slice_get, slice_range, Option, Some, None, Result, Ok, Err}
 use Rattle.std.specs.Option.{option_map_or}
 use Rattle.std.specs.List.{list_any}
 use Rattle.std.specs.Str.{bytes_eq}
@@ -158,7 +158,11 @@ owner_from i (x ∷ xs) first = if begins_at first x then Some i else owner_from
 abbrev pub owner_of : List Listed → ℕ → Option ℕ
 owner_of xs first = owner_from 0 xs first
 
--- the same with one more entry, at place i
+-- the same by any number of a first record
+abbrev pub AreOwners : (ℕ → Option ℕ) → List Listed → Type 0
+AreOwners owners xs = (first : ℕ) → owners first ≡ owner_of xs first
+
+-- the place with one more entry, at place i
 unfoldable pub owner_with : Option ℕ → ℕ → Listed → ℕ → Option ℕ
 owner_with (Some j) i x first = Some j
 owner_with None i x first = if begins_at first x then Some i else None

@@ -24,11 +24,15 @@ kind_of b = if b == 198 then Some Cards else if b == 228 then Some Modules else 
 abbrev pub directory_end : ℕ → ℕ
 directory_end d = 20 + 256 * d
 
+-- the most records of a library: three bytes count them
+abbrev pub most_records : ℕ
+most_records = 16777215
+
 -- one block or more, all of them there, and no more records than three bytes count
 abbrev pub sized : List ℕ → Head → Option Head
 sized image h =
     if h.blocks == 0 then None
-    else if nat_lt 16777215 h.records then None
+    else if nat_lt most_records h.records then None
     else if nat_lt (length image) (directory_end h.blocks) then None
     else Some h
 

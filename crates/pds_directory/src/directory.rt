@@ -7,7 +7,7 @@ ghost use Rattle.pds_directory.specs.Places.{rises};
 ghost use Rattle.std.specs.Prelude.{nat_eq};
 ghost use Rattle.pds_directory.specs.Answers.{Gives};
 ghost use Rattle.pds_directory.specs.Order.{ascends};
-ghost use Rattle.pds_directory.specs.Header.{directory_end};
+ghost use Rattle.pds_directory.specs.Header.{directory_end, most_records};
 ghost use Rattle.pds_directory.specs.Directory.{block_from, blocks_from, block_at, listing_of, owner_of, owner_with, listed_name, names_owner, may_begin, keeps_rules, rules_of};
 
 use crate::entries::read_entries;
@@ -30,16 +30,16 @@ pub struct Directory {
 }
 
 impl Model for Directory {
-    ghost use Rattle.std.specs.Prelude.{◌≡◌, ℕ, nat_eq, IsTrue};
+    ghost use Rattle.std.specs.Prelude.{nat_eq, IsTrue};
     ghost use Rattle.std.specs.HashMap.{get};
     ghost use Rattle.pds_directory.specs.Order.{ascends};
-    ghost use Rattle.pds_directory.specs.Directory.{Listing, owner_of, listed_name};
+    ghost use Rattle.pds_directory.specs.Directory.{Listing, AreOwners, listed_name};
 
     ghost Value = { Listing };
 
     ghost view = { λ d. record { head = d.head; entries = d.entries.items } };
 
-    ghost invariant = { λ d. ((t : ℕ) → get nat_eq d.owners t ≡ owner_of d.entries.items t) × IsTrue (ascends listed_name d.entries.items) };
+    ghost invariant = { λ d. AreOwners (get nat_eq d.owners) d.entries.items × IsTrue (ascends listed_name d.entries.items) };
 }
 
 /// Puts the entries of block `b`, counted from 1, at the end of `entries`. The answer is whether the
@@ -109,7 +109,7 @@ fn owners_of(alloc: Global, entries: &[Listed]) -> Result<HashMap<u32, usize>, A
 pub fn read_directory(alloc: Global, head: &[u8]) -> Result<Directory, LibStop>
     ensures gives { Gives (λ d. d) result (listing_of head.now) }
     ensures there { IfOk result (λ d. directory_end d.head.blocks ≤ length head.now) }
-    ensures few { IfOk result (λ d. d.head.records ≤ 16777215) }
+    ensures few { IfOk result (λ d. d.head.records ≤ most_records) }
 {
     let Some(h) = read_head(head) else {
         return Err(LibStop::Bad(LibFault::BadHeader));

@@ -1,6 +1,6 @@
 //! The header of an image, 20 bytes.
 ghost use Rattle.std.specs.Prelude.{◌≡◌, ◌≤◌, ◌+◌, length, IfSome};
-ghost use Rattle.pds_directory.specs.Header.{head_of, version_of, kind_of, sized, directory_end};
+ghost use Rattle.pds_directory.specs.Header.{head_of, version_of, kind_of, sized, directory_end, most_records};
 
 use crate::kinds::{LibKind, Version};
 use crate::parts::number32;
@@ -51,7 +51,7 @@ fn kind_of(b: u8) -> Option<LibKind>
 fn sized(image: &[u8], h: Head) -> Option<Head>
     ensures value { result ≡ sized image.now h }
     ensures there { IfSome result (λ g. directory_end g.blocks ≤ length image.now) }
-    ensures few { IfSome result (λ g. g.records ≤ 16777215) }
+    ensures few { IfSome result (λ g. g.records ≤ most_records) }
 {
     if h.blocks == 0 || h.records > MOST_RECORDS {
         return None;
@@ -67,7 +67,7 @@ fn sized(image: &[u8], h: Head) -> Option<Head>
 pub(crate) fn read_head(image: &[u8]) -> Option<Head>
     ensures value { result ≡ head_of image.now }
     ensures there { IfSome result (λ h. directory_end h.blocks ≤ length image.now) }
-    ensures few { IfSome result (λ h. h.records ≤ 16777215) }
+    ensures few { IfSome result (λ h. h.records ≤ most_records) }
 {
     if image.len() < HEADER {
         return None;

@@ -1,7 +1,7 @@
 //! Where the records of an image lie.
 ghost use Rattle.std.specs.Prelude.{◌≡◌, ◌≤◌, ◌<◌, ◌+◌, ◌++◌, length, IfOk, IfSome, OnOk, IsTrue};
 ghost use Rattle.pds_directory.specs.Answers.{Gives};
-ghost use Rattle.pds_directory.specs.Header.{directory_end};
+ghost use Rattle.pds_directory.specs.Header.{directory_end, most_records};
 ghost use Rattle.pds_directory.specs.Places.{width, record_at, may_stand, next_record, records_of, end_at, ends_of, rises, run_length};
 
 use crate::entry::Span;
@@ -83,9 +83,9 @@ fn next_record(h: &Head, image: &[u8], left: u32, at: usize) -> Option<Span>
 /// where bytes are left. Want of memory.
 pub fn read_records(alloc: Global, h: &Head, image: &[u8]) -> Result<Vec<Span>, LibStop>
     requires directory { directory_end h.now.blocks ≤ length image.now }
-    requires few { h.now.records ≤ 16777215 }
+    requires few { h.now.records ≤ most_records }
     ensures gives { Gives (λ v. v.items) result (records_of h.now image.now) }
-    ensures count { IfOk result (λ v. length v.items ≤ 16777215) }
+    ensures count { IfOk result (λ v. length v.items ≤ most_records) }
 {
     let mut at = HEADER + BLOCK * h.blocks as usize;
     let mut places = Vec::new(alloc);
@@ -127,7 +127,7 @@ fn note_end(ends: &mut Vec<u32>, k: u32, s: Span) -> Result<(), AllocError>
 
 /// The numbers, from 1, of the records of length zero.
 pub fn ends_of(alloc: Global, places: &[Span]) -> Result<Vec<u32>, AllocError>
-    requires { length places.now ≤ 16777215 }
+    requires { length places.now ≤ most_records }
     ensures ends { IfOk result (λ v. v.items ≡ ends_of places.now) }
     ensures rise { IfOk result (λ v. IsTrue (rises v.items)) }
 {

@@ -1,5 +1,5 @@
 -- Entries and blocks of a directory, and records, as bytes.
-use Rattle.std.specs.Prelude.{ℕ, ◌+◌, ◌-◌, ◌/◌, ◌%◌, nat_le, if◌then◌else◌, List, [], ◌∷◌, ◌++◌, length, replicate}
+use Rattle.std.specs.Prelude.{◌≡◌, ℕ, ◌+◌, ◌-◌, ◌/◌, ◌%◌, nat_le, if◌then◌else◌, List, [], ◌∷◌, ◌++◌, length, replicate}
 use Rattle.byteorder.specs.Endian.{big_bytes}
 use Rattle.pds_directory.specs.declared.kinds.LibKind.{LibKind}
 use Rattle.pds_directory.specs.declared.kinds.LibKind.TheVariants.{Cards, Modules}
@@ -44,6 +44,11 @@ blocks_of begun [] = block_bytes begun
 blocks_of begun (e ∷ es) =
     if nat_le (length begun + length e) 254 then blocks_of (begun ++ e) es
     else block_bytes begun ++ blocks_of e es
+
+-- an entry more is put: the blocks that are full, and what stands in the one that is begun, before and after
+abbrev pub PutsEntry : List ℕ → List ℕ → List ℕ → List ℕ → List ℕ → Type 0
+PutsEntry full begun e full_after begun_after =
+    (es : List (List ℕ)) → full_after ++ blocks_of begun_after es ≡ full ++ blocks_of begun (e ∷ es)
 
 unfoldable pub record_bytes : Version → List ℕ → List ℕ
 record_bytes v r = number_bytes (width v) (length r) ++ r

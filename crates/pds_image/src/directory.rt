@@ -4,7 +4,7 @@ ghost use Rattle.std.specs.Option.{option_map_or};
 ghost use Rattle.std.specs.HashMap.{get};
 ghost use Rattle.le_bytes.specs.Names.{name_eq};
 ghost use Rattle.pds_lib.specs.Contents.{entries_of};
-ghost use Rattle.pds_image.specs.Spelling.{module_data, data_bytes, flag_byte, entry_bytes, block_bytes, blocks_of};
+ghost use Rattle.pds_image.specs.Spelling.{module_data, data_bytes, flag_byte, entry_bytes, block_bytes, PutsEntry};
 ghost use Rattle.pds_image.specs.Image.{first_from, spelled_entry, directory_bytes};
 ghost use Rattle.le_bytes.specs.declared.name.Name.{Name};
 
@@ -116,7 +116,7 @@ fn put_block(out: &mut Vec<u8>, entries: &[u8]) -> Result<(), AllocError>
 /// Puts an entry into the block that is being filled, or into the next one.
 #[tactic(auto, unfolding(crate::specs::Spelling::blocks_of))]
 fn put_entry(full: &mut Vec<u8>, begun: &mut Vec<u8>, e: &[u8]) -> Result<(), AllocError>
-    ensures { OnOk result ((es : List (List ℕ)) → full.new.items ++ blocks_of begun.new.items es ≡ full.old.items ++ blocks_of begun.old.items (e.now ∷ es)) }
+    ensures { OnOk result (PutsEntry full.old.items begun.old.items e.now full.new.items begun.new.items) }
 {
     if begun.len() + e.len() > ROOM {
         put_block(full, begun.as_slice())?;

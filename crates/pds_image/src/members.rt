@@ -1,5 +1,5 @@
 //! The members of an image: where they begin, and their records.
-ghost use Rattle.std.specs.Prelude.{◌≡◌, ◌≤◌, ◌<◌, ◌+◌, ◌++◌, ℕ, [], length, drop, slice_index_or, if◌then◌else◌, IfOk, OnOk};
+ghost use Rattle.std.specs.Prelude.{◌≡◌, ◌≤◌, ◌<◌, ◌^◌, ◌+◌, ◌++◌, ℕ, [], length, drop, slice_index_or, if◌then◌else◌, IfOk, OnOk};
 ghost use Rattle.std.specs.HashMap.{get};
 ghost use Rattle.std.specs.List.{flat_map};
 ghost use Rattle.le_bytes.specs.Names.{name_eq};
@@ -18,7 +18,7 @@ use std::collections::HashMap;
 /// The records that an entry adds: of a main entry its own and the one that ends them.
 pub(crate) fn added(library: &Library, e: &Entry) -> u64
     ensures value { result ≡ added library.now e.now }
-    ensures few { result ≤ 16777216 }
+    ensures few { result ≤ 2 ^ 24 }
 {
     if e.alias {
         0
@@ -79,7 +79,7 @@ fn put_record(out: &mut Vec<u8>, version: Version, text: &[u8]) -> Result<(), Al
 /// The record behind so many.
 pub(crate) fn record_behind<'a>(records: &'a Records<'_>, k: u32) -> &'a [u8]
     requires there { k < length records.now }
-    requires small { k < 16777216 }
+    requires small { k < 2 ^ 24 }
     ensures { result.now ≡ slice_index_or records.now k [] }
 {
     match records.get(k + 1) {

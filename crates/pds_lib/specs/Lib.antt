@@ -6,3 +6,4 @@ pub mod Grammar
 pub mod Stow
 pub mod Rows
 pub mod Laws
+pub mod Kept

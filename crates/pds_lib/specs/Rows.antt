@@ -8,6 +8,7 @@ use Rattle.pds_lib.specs.declared.member.StowFault.TheVariants.{Exists, TooManyR
 use Rattle.pds_lib.specs.declared.table.Row.{Row}
 use Rattle.pds_lib.specs.declared.table.Store.{Store}
 use Rattle.pds_lib.specs.declared.table.Store.TheVariants.{Read, Given}
+use Rattle.pds_directory.specs.Header.{most_records}
 use Rattle.pds_directory.specs.Places.{run_length}
 use Rattle.pds_lib.specs.Grammar.{main_of}
 use Rattle.pds_lib.specs.Contents.{record_count}
@@ -61,7 +62,12 @@ total_after places given rows m replace image = record_count (map (held image pl
 
 -- what a stow answers in rows
 abbrev pub StowsRows : Result (Vec Row) StowFault → Result (List Row) StowFault → (List ℕ → ℕ) → Type 0
-StowsRows (Ok v) read total = (read ≡ Ok v.items) × ((image : List ℕ) → total image ≤ 16777215)
+StowsRows (Ok v) read total = (read ≡ Ok v.items) × ((image : List ℕ) → total image ≤ most_records)
 StowsRows (Err Memory) read total = Unit {0}
 StowsRows (Err (Exists n)) read total = read ≡ Err (Exists n)
-StowsRows (Err (TooManyRecords n)) read total = (is_ok read ≡ true) × ((image : List ℕ) → n ≡ total image) × (16777215 < n)
+StowsRows (Err (TooManyRecords n)) read total = (is_ok read ≡ true) × ((image : List ℕ) → n ≡ total image) × (most_records < n)
+
+-- the same of a stow into these rows
+abbrev pub StowsInto : List Span → List (List (List ℕ)) → List Row → Member → Bool → Result (Vec Row) StowFault → Type 0
+StowsInto places given rows m replace result =
+    StowsRows result (rows_stowed (length given) rows m replace) (total_after places given rows m replace)

@@ -6,6 +6,7 @@ use Rattle.le_bytes.specs.Names.{name_eq}
 use Rattle.pds_directory.specs.declared.kinds.LibKind.{LibKind}
 use Rattle.pds_directory.specs.declared.kinds.LibKind.TheVariants.{Cards, Modules}
 use Rattle.pds_directory.specs.declared.entry.Entry.{Entry}
+use Rattle.pds_directory.specs.Header.{most_records}
 use Rattle.pds_directory.specs.Places.{width, has_length}
 use Rattle.pds_directory.specs.Directory.{last_name}
 use Rattle.pds_directory.specs.Order.{ascends}
@@ -39,4 +40,4 @@ pub record IsHeld (lib : Contents) (h : Held) : Type 0 where
 pub record IsSound (lib : Contents) : Type 0 where
   pub ascending : ascends held_name lib.members ≡ true
   pub members : AllByRecursion (IsHeld lib) lib.members
-  pub few : record_count lib.members ≤ 16777215
+  pub few : record_count lib.members ≤ most_records

@@ -1,6 +1,7 @@
 -- Where the records of an entry are kept: in the image that was read, or as they were stowed.
-use Rattle.std.specs.Prelude.{ℕ, List, [], map, length, take, drop, Bool, true, nat_lt, slice_index_or}
+use Rattle.std.specs.Prelude.{ℕ, ◌^◌, List, [], map, length, take, drop, Bool, true, nat_lt, slice_index_or, find, Option}
 use Rattle.le_bytes.specs.declared.name.Name.{Name}
+use Rattle.le_bytes.specs.Names.{name_eq}
 use Rattle.pds_directory.specs.declared.entry.Span.{Span}
 use Rattle.pds_lib.specs.declared.table.Row.{Row}
 use Rattle.pds_lib.specs.declared.table.Store.{Store}
@@ -13,6 +14,10 @@ use Rattle.pds_lib.specs.Contents.{Held, Contents}
 -- the name of the entry of a row
 abbrev pub row_name : Row → Name
 row_name r = r.entry.name
+
+-- the row with a name
+abbrev pub row_with : List Row → Name → Option Row
+row_with rows n = find (λ (r : Row). name_eq (row_name r) n) rows
 
 -- the records that are kept so
 abbrev pub stored : List ℕ → List Span → List (List (List ℕ)) → Store → List (List ℕ)
@@ -39,4 +44,4 @@ row_is_there count r = is_there count r.store
 
 -- a member has no more records than three bytes count
 abbrev pub is_few : List (List ℕ) → Bool
-is_few records = nat_lt (length records) 16777216
+is_few records = nat_lt (length records) (2 ^ 24)

@@ -9,6 +9,7 @@ use Rattle.pds_lib.specs.declared.member.AliasAt.{AliasAt}
 use Rattle.pds_lib.specs.declared.member.Member.{Member}
 use Rattle.pds_lib.specs.declared.member.StowFault.{StowFault}
 use Rattle.pds_lib.specs.declared.member.StowFault.TheVariants.{Exists, TooManyRecords, Memory}
+use Rattle.pds_directory.specs.Header.{most_records}
 use Rattle.pds_directory.specs.Order.{place_of}
 use Rattle.pds_lib.specs.Contents.{Held, held_name, Contents, record_count}
 
@@ -67,7 +68,7 @@ held_for records e = record { entry = e; user_data = []; records = records }
 -- no more records, with those that end members, than three bytes count
 abbrev pub counted : Contents → Result (List Held) StowFault → Result Contents StowFault
 counted lib (Err f) = Err f
-counted lib (Ok hs) = if nat_lt 16777215 (record_count hs) then Err (TooManyRecords (record_count hs)) else Ok (record lib { members = hs })
+counted lib (Ok hs) = if nat_lt most_records (record_count hs) then Err (TooManyRecords (record_count hs)) else Ok (record lib { members = hs })
 
 -- the members that stay
 abbrev pub kept : Contents → Member → Bool → List Held

@@ -1,5 +1,5 @@
 //! A library: its members by name, with their records.
-ghost use Rattle.std.specs.Prelude.{◌≡◌, ◌<◌, [], length, take, drop, slice_get, IsTrue};
+ghost use Rattle.std.specs.Prelude.{◌≡◌, ◌<◌, ◌^◌, [], length, take, drop, slice_get, IsTrue};
 ghost use Rattle.std.specs.Option.{option_copied, option_map_or};
 ghost use Rattle.std.specs.List.{list_all};
 ghost use Rattle.pds_directory.specs.Parts.{part};
@@ -27,17 +27,15 @@ pub struct Library {
 }
 
 impl Model for Library {
-    ghost use Rattle.std.specs.Prelude.{◌<◌, length, IsTrue};
-    ghost use Rattle.std.specs.List.{list_all};
     ghost use Rattle.pds_lib.specs.Contents.{Contents};
-    ghost use Rattle.pds_lib.specs.Sound.{IsSound};
-    ghost use Rattle.pds_lib.specs.Stored.{contents, row_is_there, is_few};
+    ghost use Rattle.pds_lib.specs.Stored.{contents};
+    ghost use Rattle.pds_lib.specs.Kept.{IsKept};
 
     ghost Value = { Contents };
 
     ghost view = { λ l. contents l.version l.kind l.image.items l.places.items l.given.items l.table };
 
-    ghost invariant = { λ l. (length l.places.items < 16777216) × IsTrue (list_all is_few l.given.items) × IsTrue (list_all (row_is_there (length l.given.items)) l.table) × IsSound (contents l.version l.kind l.image.items l.places.items l.given.items l.table) };
+    ghost invariant = { λ l. IsKept l.version l.kind l.image.items l.places.items l.given.items l.table };
 }
 
 fn entry_at(entries: &[Entry], k: usize) -> Option<&Entry>
@@ -72,7 +70,7 @@ fn lend<'a>(
     given: &'a [Items<Bytes>],
     store: Store,
 ) -> Records<'a>
-    requires places { length places.now < 16777216 }
+    requires places { length places.now < 2 ^ 24 }
     requires given { IsTrue (list_all is_few given.now) }
     requires short { AreShort (stored image.now places.now given.now store) }
     ensures { result ≡ stored image.now places.now given.now store }

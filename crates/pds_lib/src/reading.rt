@@ -1,5 +1,5 @@
 //! The library that an image holds.
-ghost use Rattle.std.specs.Prelude.{◌≡◌, ◌-◌, ◌<◌, [], length, map, drop, slice_get, option_and_then, IfOk, IsTrue};
+ghost use Rattle.std.specs.Prelude.{◌≡◌, ◌-◌, ◌<◌, ◌^◌, [], length, map, drop, slice_get, option_and_then, IfOk, IsTrue};
 ghost use Rattle.pds_directory.specs.Directory.{owner_of};
 ghost use Rattle.pds_directory.specs.Answers.{Gives};
 ghost use Rattle.pds_directory.specs.Places.{run_length};
@@ -122,7 +122,7 @@ fn rows_of(alloc: Global, d: &Directory, places: &[Span]) -> Result<Vec<Row>, Al
 fn parts_of(alloc: Global, image: &[u8]) -> Result<(Head, Vec<Span>, Table), LibStop>
     ensures gives { Gives (λ x. contents x.0.version x.0.kind image.now x.1.items [] x.2) result (library_of image.now) }
     ensures sound { IfOk result (λ x. IsSound (contents x.0.version x.0.kind image.now x.1.items [] x.2)) }
-    ensures few { IfOk result (λ x. length x.1.items < 16777216) }
+    ensures few { IfOk result (λ x. length x.1.items < 2 ^ 24) }
     ensures there { IfOk result (λ x. IsTrue (list_all (row_is_there 0) x.2)) }
 {
     let d = read_directory(alloc, image)?;

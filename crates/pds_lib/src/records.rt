@@ -1,5 +1,5 @@
 //! The records of one member.
-ghost use Rattle.std.specs.Prelude.{◌≡◌, ◌-◌, ◌==◌, ◌<◌, length, slice_get, if◌then◌else◌};
+ghost use Rattle.std.specs.Prelude.{◌≡◌, ◌-◌, ◌==◌, ◌<◌, ◌^◌, length, slice_get, if◌then◌else◌};
 ghost use Rattle.std.specs.Option.{option_copied, option_map};
 
 use le_bytes::Bytes;
@@ -20,23 +20,23 @@ pub struct Records<'a> {
 }
 
 impl<'a> Model for Records<'a> {
-    ghost use Rattle.std.specs.Prelude.{List, ℕ, ◌<◌, length};
+    ghost use Rattle.std.specs.Prelude.{List, ℕ, ◌<◌, ◌^◌, length};
     ghost use Rattle.pds_lib.specs.Forms.{seen, AreShort};
 
     ghost Value = { List (List ℕ) };
 
     ghost view = { λ r. seen r.form };
 
-    ghost invariant = { λ r. (length (seen r.form) < 16777216) × AreShort (seen r.form) };
+    ghost invariant = { λ r. (length (seen r.form) < 2 ^ 24) × AreShort (seen r.form) };
 }
 
 impl<'a> Records<'a> {
-    ghost use Rattle.std.specs.Prelude.{◌≡◌, ◌-◌, ◌==◌, ◌<◌, length, slice_get, if◌then◌else◌};
+    ghost use Rattle.std.specs.Prelude.{◌≡◌, ◌-◌, ◌==◌, ◌<◌, ◌^◌, length, slice_get, if◌then◌else◌};
     ghost use Rattle.std.specs.Option.{option_copied, option_map};
     ghost use Rattle.pds_lib.specs.Forms.{seen, AreShort};
 
     pub(crate) fn new(form: Form<'a>) -> Records<'a>
-        requires few { length (seen form) < 16777216 }
+        requires few { length (seen form) < 2 ^ 24 }
         requires short { AreShort (seen form) }
         ensures { result ≡ seen form.entry }
     {
@@ -46,7 +46,7 @@ impl<'a> Records<'a> {
     /// The number of records, at most 16,777,215.
     pub fn count(&self) -> u32
         ensures count { result ≡ length self.now }
-        ensures few { result < 16777216 }
+        ensures few { result < 2 ^ 24 }
     {
         match self.form {
             Form::Read(_, places) => places.len() as u32,

@@ -6,7 +6,7 @@ ghost use Rattle.le_bytes.specs.Names.{name_eq};
 ghost use Rattle.pds_directory.specs.Order.{ascends, place_of};
 ghost use Rattle.pds_lib.specs.Stow.{is_named, goes, stays, entry_with, main_entry, alias_entry, entries_for, HasWidths, has_name, put_all};
 ghost use Rattle.pds_lib.specs.Stored.{row_name, stored, held, is_few};
-ghost use Rattle.pds_lib.specs.Rows.{row_for, PutsRow, PutsRows, rows_stowed, total_after, StowsRows};
+ghost use Rattle.pds_lib.specs.Rows.{row_for, PutsRow, PutsRows, StowsInto};
 ghost use Rattle.pds_lib.specs.declared.table.Row.{Row};
 ghost use Rattle.pds_lib.specs.declared.member.AliasAt.{AliasAt};
 ghost use Rattle.pds_lib.specs.declared.member.StowFault.TheVariants.{Exists};
@@ -147,10 +147,10 @@ fn put_rows(rows: &mut Vec<Row>, entries: &[Entry], store: Store) -> Result<(), 
 
 /// How many records are kept so.
 fn stored_count(places: &[Span], given: &[Items<Bytes>], store: Store) -> usize
-    requires places { length places.now < 16777216 }
+    requires places { length places.now < 2 ^ 24 }
     requires given { IsTrue (list_all is_few given.now) }
     ensures count { (image : List ℕ) → result ≡ length (stored image places.now given.now store) }
-    ensures few { result < 16777216 }
+    ensures few { result < 2 ^ 24 }
 {
     match store {
         Store::Read { first, count } => read_places(places, first, count).len(),
@@ -163,10 +163,10 @@ fn stored_count(places: &[Span], given: &[Items<Bytes>], store: Store) -> usize
 
 /// How many records an entry adds to a library: of a main entry its own and the one that ends them.
 fn entry_count(places: &[Span], given: &[Items<Bytes>], r: &Row) -> u64
-    requires places { length places.now < 16777216 }
+    requires places { length places.now < 2 ^ 24 }
     requires given { IsTrue (list_all is_few given.now) }
     ensures count { (image : List ℕ) → result ≡ entry_count (held image places.now given.now r.now) }
-    ensures few { result ≤ 16777216 }
+    ensures few { result ≤ 2 ^ 24 }
 {
     if r.entry.alias {
         0
@@ -177,7 +177,7 @@ fn entry_count(places: &[Span], given: &[Items<Bytes>], r: &Row) -> u64
 
 /// How many records the entries add to a library.
 fn count_rows(places: &[Span], given: &[Items<Bytes>], rows: &[Row]) -> u64
-    requires places { length places.now < 16777216 }
+    requires places { length places.now < 2 ^ 24 }
     requires given { IsTrue (list_all is_few given.now) }
     requires rows { length rows.now < 2 ^ 32 }
     ensures count { (image : List ℕ) → result ≡ record_count (map (held image places.now given.now) rows.now) }
@@ -199,11 +199,11 @@ fn stow_rows(
     m: &Member,
     replace: bool,
 ) -> Result<Vec<Row>, StowFault>
-    requires places { length places.now < 16777216 }
+    requires places { length places.now < 2 ^ 24 }
     requires given { IsTrue (list_all is_few given.now) }
     requires ascending { IsTrue (ascends row_name rows.now) }
     requires rows { length rows.now < 2 ^ 32 }
-    ensures gives { StowsRows result (rows_stowed (length given.now) rows.now m.now replace) (total_after places.now given.now rows.now m.now replace) }
+    ensures gives { StowsInto places.now given.now rows.now m.now replace result }
     ensures ascending { IfOk result (λ v. IsTrue (ascends row_name v.items)) }
     ensures widths { IfOk result (λ _. AllByRecursion HasWidths (entries_for m.now)) }
 {

@@ -3,7 +3,7 @@ ghost use Rattle.std.specs.Prelude.{◌≡◌, ◌≤◌, ◌<◌, List, false, 
 ghost use Rattle.std.specs.Option.{option_map_or};
 ghost use Rattle.le_bytes.specs.Names.{name_eq};
 ghost use Rattle.pds_directory.specs.Order.{ascends, place_of};
-ghost use Rattle.pds_lib.specs.Stored.{row_name};
+ghost use Rattle.pds_lib.specs.Stored.{row_name, row_with};
 ghost use Rattle.pds_lib.specs.declared.table.Row.{Row};
 
 use le_bytes::Name;
@@ -36,16 +36,15 @@ pub(crate) struct Table {
 }
 
 impl Model for Table {
-    ghost use Rattle.std.specs.Prelude.{◌≡◌, ◌<◌, ◌^◌, List, length, map, IsTrue};
+    ghost use Rattle.std.specs.Prelude.{List};
     ghost use Rattle.pds_lib.specs.declared.table.Row.{Row};
-    ghost use Rattle.pds_directory.specs.Order.{ascends};
-    ghost use Rattle.pds_lib.specs.Stored.{row_name};
+    ghost use Rattle.pds_lib.specs.Kept.{IsTable};
 
     ghost Value = { List Row };
 
     ghost view = { λ t. t.rows.items };
 
-    ghost invariant = { λ t. (t.entries.items ≡ map (λ (r : Row). r.entry) t.rows.items) × IsTrue (ascends row_name t.rows.items) × (length t.rows.items < 2 ^ 32) };
+    ghost invariant = { λ t. IsTable t.rows.items t.entries.items };
 }
 
 /// How many of the rows have a name below `n`, by halving.
@@ -79,8 +78,8 @@ fn is_named_at(rows: &[Row], k: usize, n: &Name) -> bool
 /// Where the row with the name `n` stands.
 pub(crate) fn find_row(rows: &[Row], n: &Name) -> Option<usize>
     requires { IsTrue (ascends row_name rows.now) }
-    ensures none { IfNone result (find (λ (r : Row). name_eq (row_name r) n.now) rows.now ≡ None) }
-    ensures found { IfSome result (λ k. (k < length rows.now) × (slice_get rows.now k ≡ find (λ (r : Row). name_eq (row_name r) n.now) rows.now)) }
+    ensures none { IfNone result (row_with rows.now n.now ≡ None) }
+    ensures found { IfSome result (λ k. (k < length rows.now) × (slice_get rows.now k ≡ row_with rows.now n.now)) }
 {
     let k = place_of(rows, n);
     if is_named_at(rows, k, n) {
