@@ -1,5 +1,5 @@
 -- One run of linking: what it comes to, as one function of the options and the cards of the primary input.
-use Rattle.std.specs.Prelude.{◌≡◌, ℕ, List, [], ◌∷◌, All, Result, Ok, Err}
+use Rattle.std.specs.Prelude.{◌≡◌, ℕ, Bool, not, ◌||◌, List, [], ◌∷◌, All, Result, Ok, Err}
 use Rattle.le_bytes.specs.declared.refusal.Refusal.{Refusal}
 use Rattle.sym_mod.specs.declared.program.Program.{Program}
 use Rattle.link_core.specs.declared.linked.Linked.{Linked}
@@ -10,6 +10,11 @@ use Rattle.link_core.specs.declared.program.ProgramFault.{ProgramFault}
 use Rattle.link_core.specs.declared.program.ProgramFault.TheVariants as program
 use Rattle.link_core.specs.Programs.{program_of_cards}
 use Rattle.link_core.specs.Modules.{may_be_unresolved, linked_module, Stands}
+
+-- no option is on that would change the load modules and does not yet: neither map nor cross-reference is printed, and
+-- there is no overlay tree
+abbrev pub are_heeded : Options → Bool
+are_heeded o = not (o.map || o.xref || o.xcal || o.ovly)
 
 -- the load modules in order; or a refusal, after the load modules before the refused one; or a statement card, by its number
 pub data Linking : Type 0 where

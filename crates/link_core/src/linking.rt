@@ -1,12 +1,13 @@
 //! One run of linking.
-ghost use Rattle.std.specs.Prelude.{◌≡◌, ◌≤◌, Ok, false, All, IfOk, length};
+ghost use Rattle.std.specs.Prelude.{◌≡◌, ◌≤◌, Ok, true, false, All, IfOk, length};
 ghost use Rattle.le_bytes.specs.Names.{name_eq};
 ghost use Rattle.pds_lib.specs.Stow.{last_name};
 ghost use Rattle.member_laws.specs.Linkable.{HasEightBytes};
-ghost use Rattle.link_core.specs.Sets.{primary_cards};
+ghost use Rattle.command_words.specs.Keys.{syslib};
+ghost use Rattle.link_core.specs.Sets.{has_set, primary_cards};
 ghost use Rattle.link_core.specs.Links.{IsLinked};
 ghost use Rattle.link_core.specs.Programs.{program_of_cards};
-ghost use Rattle.link_core.specs.Linking.{linking, linking_of, LinksAs, StandFor};
+ghost use Rattle.link_core.specs.Linking.{are_heeded, linking, linking_of, LinksAs, StandFor};
 ghost use Rattle.link_core.specs.Modules.{IsStowable, may_be_unresolved};
 
 use crate::linked::{LinkFault, Linked};
@@ -20,7 +21,9 @@ use pds_lib::Set;
 use std::alloc::Global;
 
 /// Links the primary input, which is the set named SYSLIN, and gives every load module in order. It is a
-/// list of object decks yet, and gives one load module. Each may be stowed in every library of load
+/// list of object decks yet, and gives one load module. Nothing is printed but the listing, nothing is
+/// called automatically and there is no overlay tree: so neither MAP, XREF, XCAL nor OVLY may be asked for,
+/// and no set may be named SYSLIB. Each load module may be stowed in every library of load
 /// modules, unless the name of the options is eight X'FF'; and each stands for its program: its member is
 /// good, and has in storage what the program has there linked. The cost is linear in the cards and in the
 /// records, but for the look-ups of the merge.
@@ -32,7 +35,9 @@ use std::alloc::Global;
 /// Want of memory.
 #[tactic(auto, unfolding(crate::specs::Linking::linking))]
 pub fn link(alloc: Global, sets: &[Set], o: &Options) -> Result<Items<Linked>, LinkFault>
-    requires { length (primary_cards sets.now) ≤ 67108864 }
+    requires short { length (primary_cards sets.now) ≤ 67108864 }
+    requires options { are_heeded o.now ≡ true }
+    requires library { has_set syslib sets.now ≡ false }
     ensures modules { LinksAs (linking o.now (primary_cards sets.now)) result }
     ensures stowable { name_eq last_name o.now.member ≡ false → IfOk result (All IsStowable) }
     ensures stands { IfOk result (StandFor o.now (program_of_cards (primary_cards sets.now) (may_be_unresolved o.now))) }
