@@ -150,7 +150,7 @@ named_step first text this others command plain later is = by_test (bytes_eq fir
     by_test true equal is = rw (equal refl) plain
     by_test false equal is = later is
 
-no_key : (first : List ℕ) (command : Command) → command_named first ≡ Some command → key_value first ≡ None
+pub no_key : (first : List ℕ) (command : Command) → command_named first ≡ Some command → key_value first ≡ None
 unfolding command_named key_value
 no_key first command named =
     named_step first (codes "link") Link _ command refl (named_step first (codes "go") Go _ command refl

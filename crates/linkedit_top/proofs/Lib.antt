@@ -1,3 +1,4 @@
+pub mod BuiltWords
 pub mod Decided
 pub mod Headline
 pub mod LibraryKinds
@@ -5,7 +6,9 @@ pub mod NamedSets
 pub mod Names
 pub mod OutputSets
 pub mod PrintedPrograms
+pub mod ReadAgain
 pub mod Refusals
+pub mod SetRefusals
 pub mod SetsRead
 pub mod Standing
 pub mod Statuses

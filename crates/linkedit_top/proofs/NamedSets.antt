@@ -22,7 +22,7 @@ use Rattle.pds_lib.specs.Grammar.{library_of}
 use Rattle.pds_lib.proofs.ReadSound.{same_name}
 use Rattle.link_core.specs.Sets.{cards_in, primary_cards}
 use Rattle.linkedit_top.specs.Link.{library_in, output_in}
-use Rattle.linkedit_top.specs.Sets.{body_at, empty_library, is_for_modules, made_version, new_version, path_for, set_as, set_at, set_before, set_limit, set_of_word, sets_in, sets_of, whole_library, with_set}
+use Rattle.linkedit_top.specs.Sets.{body_at, empty_library, file_at, is_for_modules, made_version, new_version, set_as, set_at, set_before, set_limit, set_of_word, sets_in, sets_of, whole_library, with_set}
 use Rattle.linkedit_top.specs.Headline.{cards_at, library_at, library_or_new}
 
 -- ---- a set by its name
@@ -148,11 +148,11 @@ body_is dd (Err refusal) x is = absurd cc
 module _ (words : List (List ℕ)) (files : Files) where
   set_named_so : (n : Name) (x : Set) → set_at words files n ≡ Ok x → x.dd ≡ n
   unfolding set_at
-  set_named_so n x is = named_as n (body_at (made_version words) n (files (path_for words n))) x is
+  set_named_so n x is = named_as n (body_at (made_version words) n (file_at words files n)) x is
 
-  body_read : (n : Name) (x : Set) → set_at words files n ≡ Ok x → body_at (made_version words) n (files (path_for words n)) ≡ Ok x.body
+  body_read : (n : Name) (x : Set) → set_at words files n ≡ Ok x → body_at (made_version words) n (file_at words files n) ≡ Ok x.body
   unfolding set_at
-  body_read n x is = body_is n (body_at (made_version words) n (files (path_for words n))) x is
+  body_read n x is = body_is n (body_at (made_version words) n (file_at words files n)) x is
 
   path_is : (n : Name) → is_reserved n ≡ false → path_of words n ≡ value_in n words
   unfolding path_of
@@ -169,12 +169,12 @@ module _ (words : List (List ℕ)) (files : Files) where
       cases false gives = let same : Cards bytes ≡ b = cc in ap cards_in (sym same)
 
   cards_named : (path : Option (List ℕ)) (o : Option Set) → path_of words syslin ≡ path → IsNamed (set_at words files) syslin path o
-      → option_map_or (λ (x : Set). cards_in x.body) o [] ≡ option_map_or (λ path. unwrap_or (files path) []) path []
+      → option_map_or (λ (x : Set). cards_in x.body) o [] ≡ unwrap_or (option_and_then files path) []
   cards_named None o at named = ap (λ o. option_map_or (λ (x : Set). cards_in x.body) o []) named
   cards_named (Some path) None at named = absurd named
   cards_named (Some path) (Some x) at named =
-      cards_read (made_version words) (files (path_for words syslin)) x.body (body_read syslin x named)
-      ∙ ap (λ path. unwrap_or (files (unwrap_or path [])) []) at
+      cards_read (made_version words) (file_at words files syslin) x.body (body_read syslin x named)
+      ∙ ap (λ path. unwrap_or (option_and_then files path) []) at
 
   pub cards_are : (sets : List Set) → sets_of words files ≡ Ok sets → primary_cards sets ≡ cards_at words files
   cards_are sets is =
@@ -215,9 +215,9 @@ module _ (words : List (List ℕ)) (files : Files) where
   output_named v None o at made named = ap (λ o. unwrap_or (option_and_then (λ (x : Set). library_in x.body) o) (empty_library v)) named
   output_named v (Some path) None at made named = absurd named
   output_named v (Some path) (Some x) at made named =
-      output_read v (files (path_for words syslmod)) x.body
-      (subst (λ new. body_at new syslmod (files (path_for words syslmod)) ≡ Ok x.body) made (body_read syslmod x named))
-      ∙ ap (λ path. library_or_new v (files (unwrap_or path []))) at
+      output_read v (file_at words files syslmod) x.body
+      (subst (λ new. body_at new syslmod (file_at words files syslmod) ≡ Ok x.body) made (body_read syslmod x named))
+      ∙ ap (λ path. library_or_new v (option_and_then files path)) at
 
   pub output_is : (sets : List Set) → sets_of words files ≡ Ok sets → made_version words ≡ Some (new_version words) → output_in (new_version words) sets ≡ library_at words files
   output_is sets is made =

@@ -3,6 +3,7 @@ use Rattle.std.proofs.Common.{arith, ◌≡◌, ℕ, ◌+◌, ◌<◌, ◌≤◌
 use Rattle.std.specs.Prelude.{find}
 use Rattle.std.specs.Option.{option_map_or}
 use Rattle.std.proofs.Math.ListN.{drop_of_length-le}
+use Rattle.std.proofs.lemmas.List.Elements.{All-weaker}
 use Rattle.le_bytes.specs.Names.{name_eq}
 use Rattle.command_words.specs.Keys.{syslin, syslmod}
 use Rattle.pds_directory.specs.declared.kinds.Version.{Version}
@@ -46,15 +47,23 @@ cards_read : (b : Body) → IsReadBody b → IsReadCards (cards_in b)
 cards_read (Cards bytes) read = read
 cards_read (Lib lib) read = none_read
 
-primary_read : (sets : List Set) → All IsReadSet sets → IsReadCards (primary_cards sets)
+-- sets whose bodies were read
+abbrev pub AreBodiesRead : List Set → Type 0
+AreBodiesRead sets = All (λ (x : Set). IsReadBody x.body) sets
+
+primary_read : (sets : List Set) → AreBodiesRead sets → IsReadCards (primary_cards sets)
 primary_read sets all = cases (find (λ (x : Set). name_eq x.dd syslin) sets) refl
   where
     cases : (o : Option Set) → find (λ (x : Set). name_eq x.dd syslin) sets ≡ o → IsReadCards (option_map_or (λ (x : Set). cards_in x.body) o [])
     cases None is = none_read
-    cases (Some x) is = cards_read x.body (found IsReadSet (λ (y : Set). name_eq y.dd syslin) sets x all is)
+    cases (Some x) is = cards_read x.body (found (λ (z : Set). IsReadBody z.body) (λ (y : Set). name_eq y.dd syslin) sets x all is)
 
-pub primary_short : (sets : List Set) → All IsReadSet sets → length (primary_cards sets) ≤ set_limit
-primary_short sets all = (primary_read sets all).0
+-- sets that words name, by their bodies
+pub bodies : (words : List (List ℕ)) (sets : List Set) → All (IsReadSet words) sets → AreBodiesRead sets
+bodies words sets all = All-weaker (IsReadSet words) (λ (x : Set). IsReadBody x.body) (λ x read. read.0) sets all
 
-pub primary_bytes : (sets : List Set) → All IsReadSet sets → AreBytes (primary_cards sets)
-primary_bytes sets all = (primary_read sets all).1
+pub primary_short : (words : List (List ℕ)) (sets : List Set) → All (IsReadSet words) sets → length (primary_cards sets) ≤ set_limit
+primary_short words sets all = (primary_read sets (bodies words sets all)).0
+
+pub primary_bytes : (words : List (List ℕ)) (sets : List Set) → All (IsReadSet words) sets → AreBytes (primary_cards sets)
+primary_bytes words sets all = (primary_read sets (bodies words sets all)).1

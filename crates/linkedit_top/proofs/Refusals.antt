@@ -4,7 +4,7 @@ use Rattle.std.specs.Prelude.{All, IfSome, option_map}
 use Rattle.std.proofs.lemmas.List.Elements.{All-nil}
 use Rattle.std.specs.Option.{option_or}
 use Rattle.le_bytes.specs.declared.refusal.Refusal.{Refusal}
-use Rattle.le_bytes.specs.declared.refusal.Refusal.TheVariants.{NoSection, Symbol, Limit}
+use Rattle.le_bytes.specs.declared.refusal.Refusal.TheVariants.{SetAbsent, TooLong, NoSection, Symbol, Limit}
 use Rattle.le_bytes.specs.declared.refusal.SymbolWhat.TheVariants.{Unresolved}
 use Rattle.le_bytes.specs.declared.refusal.Counted.TheVariants.{Registers, ModuleLength}
 use Rattle.sym_mod.specs.declared.program.Program.{Program}
@@ -28,13 +28,20 @@ use Rattle.link_core.specs.declared.program.ProgramFault.TheVariants.{Refused, S
 use Rattle.link_core.specs.Programs.{first_wanting, root_program, root_refusal, name_refusal, limit_refusal, link_refusal, deck_fault, unless_refused, program_of_decks, program_of_cards}
 use Rattle.link_core.specs.Modules.{may_be_unresolved, IsStowable}
 use Rattle.link_core.specs.Linking.{Linking, LinkedModules, Refuses, StatementAt, linking, linking_of}
-use Rattle.linkedit_top.specs.Causes.{IsOwnRefusal}
+use Rattle.linkedit_top.specs.Causes.{IsLinkRefusal, IsOwnRefusal}
 use Rattle.linkedit_top.specs.Link.{stowed_or, with_module, with_modules, unless_refused as unless_stow_refused}
+
+-- ---- of what the data sets hold
+
+pub link_own : (refusal : Refusal) → IsLinkRefusal refusal → IsOwnRefusal refusal
+link_own (SetAbsent dd) own = own
+link_own (TooLong dd) own = own
+link_own _ own = tt
 
 -- ---- of a program
 
 abbrev pub IsOwnIfAny : Option Refusal → Type 0
-IsOwnIfAny o = IfSome o IsOwnRefusal
+IsOwnIfAny o = IfSome o IsLinkRefusal
 
 either : (a b : Option Refusal) → IsOwnIfAny a → IsOwnIfAny b → IsOwnIfAny (option_or a b)
 either (Some r) b first second = first
@@ -65,7 +72,7 @@ own_refusal p may =
 
 abbrev pub IsOwnFault : Result Program ProgramFault → Type 0
 IsOwnFault (Ok p) = Unit {0}
-IsOwnFault (Err (Refused refusal)) = IsOwnRefusal refusal
+IsOwnFault (Err (Refused refusal)) = IsLinkRefusal refusal
 IsOwnFault (Err (Statement number)) = Unit {0}
 
 own_deck : (fault : DeckFault) → IsOwnFault (Err (deck_fault fault))
@@ -82,14 +89,14 @@ own_decks : (may : Bool) (r : Result (List Read) DeckFault) → IsOwnFault (prog
 own_decks may (Err fault) = own_deck fault
 own_decks may (Ok rs) = own_program (root_program rs) (link_refusal (root_program rs) may) (own_refusal (root_program rs) may)
 
-pub own_cards : (cards : List ℕ) (may : Bool) (refusal : Refusal) → program_of_cards cards may ≡ Err (Refused refusal) → IsOwnRefusal refusal
+pub own_cards : (cards : List ℕ) (may : Bool) (refusal : Refusal) → program_of_cards cards may ≡ Err (Refused refusal) → IsLinkRefusal refusal
 own_cards cards may refusal is = subst IsOwnFault is (own_decks may (decks_of cards))
 
 -- ---- of linking
 
 abbrev pub IsOwnLinking : Linking → Type 0
 IsOwnLinking (LinkedModules modules) = Unit {0}
-IsOwnLinking (Refuses refusal before) = IsOwnRefusal refusal
+IsOwnLinking (Refuses refusal before) = IsLinkRefusal refusal
 IsOwnLinking (StatementAt number) = Unit {0}
 
 own_of : (o : Options) (r : Result Program ProgramFault) → IsOwnFault r → IsOwnLinking (linking_of o r)
@@ -100,7 +107,7 @@ own_of o (Err (Statement number)) own = tt
 pub own_linking : (o : Options) (cards : List ℕ) (refusal : Refusal) (before : List Linked) → linking o cards ≡ Refuses refusal before → IsOwnRefusal refusal
 unfolding linking
 own_linking o cards refusal before is =
-    subst IsOwnLinking is (own_of o (program_of_cards cards (may_be_unresolved o)) (own_decks (may_be_unresolved o) (decks_of cards)))
+    link_own refusal (subst IsOwnLinking is (own_of o (program_of_cards cards (may_be_unresolved o)) (own_decks (may_be_unresolved o) (decks_of cards))))
 
 -- there is one load module, and none before a refusal
 pub none_before : (o : Options) (cards : List ℕ) (refusal : Refusal) (before : List Linked) → linking o cards ≡ Refuses refusal before → All IsStowable before
@@ -116,7 +123,7 @@ none_before o cards refusal before is = cases (program_of_cards cards (may_be_un
 
 abbrev pub IsOwnStow : {A : Type 0} → Result A Refusal → Type 0
 IsOwnStow (Ok x) = Unit {0}
-IsOwnStow (Err refusal) = IsOwnRefusal refusal
+IsOwnStow (Err refusal) = IsLinkRefusal refusal
 
 own_stow : (old : Contents) (r : Result Contents StowFault) → IsOwnStow (stowed_or old r)
 own_stow old (Ok lib) = tt
@@ -124,7 +131,7 @@ own_stow old (Err (Exists name)) = tt
 own_stow old (Err (TooManyRecords n)) = tt
 own_stow old (Err Memory) = tt
 
-own_module : (lib : Contents) (x : Linked) → IsOwnStow (with_module lib x)
+pub own_module : (lib : Contents) (x : Linked) → IsOwnStow (with_module lib x)
 unfolding with_module
 own_module lib x = own_stow lib (stowed lib x.member x.replace)
 
@@ -138,7 +145,7 @@ own_modules lib [] = tt
 own_modules lib (x ∷ rest) = own_then (with_module lib x) (λ after. with_modules after rest) (own_module lib x) (λ after. own_modules after rest)
 
 pub own_stows : (lib : Contents) (modules : List Linked) (refusal : Refusal) → Err refusal ≡ with_modules lib modules → IsOwnRefusal refusal
-own_stows lib modules refusal is = subst IsOwnStow (sym_is is) (own_modules lib modules)
+own_stows lib modules refusal is = link_own refusal (subst IsOwnStow (sym_is is) (own_modules lib modules))
   where
     sym_is : {x y : Result Contents Refusal} → x ≡ y → y ≡ x
     sym_is same = cc

@@ -6,7 +6,7 @@ use Rattle.le_bytes.specs.declared.refusal.Refusal.{Refusal}
 use Rattle.le_bytes.specs.declared.refusal.Refusal.TheVariants.{SetAbsent, TooLong}
 use Rattle.command_words.specs.Keys.{syslmod}
 use Rattle.le_io.specs.Counts.{Files, Counts, Rose, NoneFalls, NoFault, PutFaultsRose}
-use Rattle.le_io.specs.Reads.{PutsTold, PutHasCause as PutCause}
+use Rattle.le_io.specs.Reads.{OthersStay, PutsTold, PutHasCause as PutCause}
 use Rattle.le_io.specs.declared.store.Failed.{Failed}
 use Rattle.linkedit_top.specs.declared.answer.Answer.{Answer}
 use Rattle.linkedit_top.specs.declared.answer.Put.{Put}
@@ -15,10 +15,19 @@ use Rattle.linkedit_top.specs.declared.status.Status.TheVariants as status
 use Rattle.linkedit_top.specs.declared.status.Fault.TheVariants as fault
 use Rattle.linkedit_top.specs.declared.stop.Stop.{Stop}
 use Rattle.linkedit_top.specs.declared.stop.Stop.TheVariants.{Read, Memory}
-use Rattle.linkedit_top.specs.Sets.{path_for}
-use Rattle.linkedit_top.specs.Causes.{Completes, HasStatus, Holds, FilesAfter, StoreHasCause, SinkHasCause, RefusalHasCause, IsFinal, IsOwn, IsOwnRefusal, PrintedStatus}
+use Rattle.command_words.specs.Meaning.{path_of}
+use Rattle.linkedit_top.specs.Causes.{AtPath, Completes, HasStatus, Holds, KeepsQuiet, FilesAfter, StoreHasCause, SinkHasCause, RefusalHasCause, IsFinal, IsOwn, IsOwnRefusal, PrintedStatus}
 use Rattle.linkedit_top.specs.Deciding.{SetsHaveCause}
-use Rattle.linkedit_top.specs.Ending.{EndHasCause, EndsAs, PutHasCause, PutTold, RefusesAs}
+use Rattle.linkedit_top.specs.Ending.{EndHasCause, EndsAs, IsOfGoodWords, PutHasCause, PutTold, RefusesAs}
+
+-- what holds of something that is there goes over into what follows from it
+pub some_so : {A : Type 0} {P Q : A → Type 0} (o : Option A) → IsSomeAnd o P → ((x : A) → P x → Q x) → IsSomeAnd o Q
+some_so None there so = absurd there
+some_so (Some x) there so = so x there
+
+none_so : {A : Type 0} {P : A → Type 0} (o : Option A) → IsSomeAnd o P → ((x : A) → P x → ⊥) → ⊥
+none_so None there no_one = there
+none_so (Some x) there no_one = no_one x there
 
 -- ---- counts
 
@@ -60,20 +69,40 @@ own_final (status.Fault f) own = absurd own
 own_final status.Memory own = absurd own
 own_final _ own = tt
 
+pub own_good : (s : Status) → IsOwn s → IsOfGoodWords s
+own_good (status.BadWords word what) own = own
+own_good _ own = tt
+
+-- an answer carried out calls no word bad that it did not
+pub good_end : (answered result : Status) → IsOfGoodWords answered → EndsAs answered result → IsOfGoodWords result
+good_end answered result good (inl (inl same)) = subst IsOfGoodWords (sym same) good
+good_end answered result good (inl (inr printing)) = subst IsOfGoodWords (sym printing) tt
+good_end answered result good (inr putting) = subst IsOfGoodWords (sym putting) tt
+
+final_quiet : (before after : Option (List ℕ)) (s : Status) → IsFinal s → KeepsQuiet before after s
+final_quiet before after (status.Fault f) final = absurd final
+final_quiet before after status.Memory final = absurd final
+final_quiet before after _ final = tt
+
+-- once the text was handed to the sink nothing has to be as it was
+pub printed_quiet : (before after : Option (List ℕ)) (answered result : Status) → IsFinal answered → PrintedStatus answered result → KeepsQuiet before after result
+printed_quiet before after answered result final (inl same) = subst (KeepsQuiet before after) (sym same) (final_quiet before after answered final)
+printed_quiet before after answered result final (inr printing) = subst (KeepsQuiet before after) (sym printing) tt
+
 -- ---- one step after another
 
 refusal_later : (a b c : Counts) (words : List (List ℕ)) (r : Refusal) → NoneFalls b c → RefusalHasCause a b words r → RefusalHasCause a c words r
 refusal_later a b c words (SetAbsent dd) falls cause =
-    rose_later (a.misses (path_for words dd)) (b.misses (path_for words dd)) (c.misses (path_for words dd)) cause (falls.misses_stand (path_for words dd))
+    some_so (path_of words dd) cause (λ path rose. rose_later (a.misses path) (b.misses path) (c.misses path) rose (falls.misses_stand path))
 refusal_later a b c words (TooLong dd) falls cause =
-    rose_later (a.longs (path_for words dd)) (b.longs (path_for words dd)) (c.longs (path_for words dd)) cause (falls.longs_stand (path_for words dd))
+    some_so (path_of words dd) cause (λ path rose. rose_later (a.longs path) (b.longs path) (c.longs path) rose (falls.longs_stand path))
 refusal_later a b c words _ falls cause = tt
 
 refusal_before : (a b c : Counts) (words : List (List ℕ)) (r : Refusal) → NoneFalls a b → RefusalHasCause b c words r → RefusalHasCause a c words r
 refusal_before a b c words (SetAbsent dd) falls cause =
-    rose_before (a.misses (path_for words dd)) (b.misses (path_for words dd)) (c.misses (path_for words dd)) (falls.misses_stand (path_for words dd)) cause
+    some_so (path_of words dd) cause (λ path rose. rose_before (a.misses path) (b.misses path) (c.misses path) (falls.misses_stand path) rose)
 refusal_before a b c words (TooLong dd) falls cause =
-    rose_before (a.longs (path_for words dd)) (b.longs (path_for words dd)) (c.longs (path_for words dd)) (falls.longs_stand (path_for words dd)) cause
+    some_so (path_of words dd) cause (λ path rose. rose_before (a.longs path) (b.longs path) (c.longs path) (falls.longs_stand path) rose)
 refusal_before a b c words _ falls cause = tt
 
 -- sets read after others of which no read failed
@@ -83,7 +112,7 @@ sets_later a b c words (Ok (Ok x)) falls none cause = no_fault a b c none cause
 sets_later a b c words (Ok (Err refusal)) falls none cause =
     (no_fault a b c none cause.0, refusal_before a b c words refusal falls cause.1)
 sets_later a b c words (Err (Read dd)) falls none cause =
-    rose_before (a.faults (path_for words dd)) (b.faults (path_for words dd)) (c.faults (path_for words dd)) (falls.faults_stand (path_for words dd)) cause
+    some_so (path_of words dd) cause (λ path rose. rose_before (a.faults path) (b.faults path) (c.faults path) (falls.faults_stand path) rose)
 sets_later a b c words (Err Memory) falls none cause = no_fault a b c none cause
 
 -- a final status after the put, in which no call failed
@@ -111,7 +140,7 @@ carried_out a b c words answered result before falls none final cause (inl (inr 
 carried_out a b c words answered result before falls none final cause (inr putting) ended =
     let failed : EndHasCause b c words (status.Fault (fault.Write syslmod)) = subst (EndHasCause b c words) putting ended in
     subst (StoreHasCause a c words) (sym putting)
-    (refl, rose_before (a.put_faults (path_for words syslmod)) (b.put_faults (path_for words syslmod)) (c.put_faults (path_for words syslmod)) (before.put_faults_stand (path_for words syslmod)) failed.1)
+    (refl, some_so (path_of words syslmod) failed.1 (λ path rose. rose_before (a.put_faults path) (b.put_faults path) (c.put_faults path) (before.put_faults_stand path) rose))
 
 -- ---- completeness
 
@@ -132,8 +161,8 @@ has_status_refused answered result (inr wanting) = subst (HasStatus answered) (s
 
 pub completes : (old new : Counts) (before after : ℕ) (words : List (List ℕ)) (answered result : Status) → HasStatus answered result
     → StoreHasCause old new words result → SinkHasCause before after result → Completes old new before after answered result
-completes old new before after words answered (status.Fault (fault.Read dd)) is store sink none = absurd (none.reads (path_for words dd) store)
-completes old new before after words answered (status.Fault (fault.Write dd)) is store sink none = absurd (none.puts (path_for words dd) store.1)
+completes old new before after words answered (status.Fault (fault.Read dd)) is store sink none = absurd (none_so (path_of words dd) store none.reads)
+completes old new before after words answered (status.Fault (fault.Write dd)) is store sink none = absurd (none_so (path_of words dd) store.1 none.puts)
 completes old new before after words answered (status.Fault fault.Print) is store sink none = absurd (none.writes sink)
 completes old new before after words answered status.Memory is store sink none = inr refl
 completes old new before after words answered _ is store sink none = inl is
@@ -161,21 +190,18 @@ printed_cause b c words answered result final (inl same) none = subst (EndHasCau
     final_no _ final_s = none
 printed_cause b c words answered result final (inr printing) none = subst (EndHasCause b c words) (sym printing) none
 
--- what holds of something that is there goes over into what follows from it
-pub some_so : {A : Type 0} {P Q : A → Type 0} (o : Option A) → IsSomeAnd o P → ((x : A) → P x → Q x) → IsSomeAnd o Q
-some_so None there so = absurd there
-some_so (Some x) there so = so x there
-
 -- a put by the path of its data set
-pub put_told : (words : List (List ℕ)) (before after : Files) (put : Put) (result : Result (Unit {0}) Failed)
-    → PutsTold before after (path_for words put.dd) put.image result → PutTold words before after (Some put) result
-put_told words before after put (Ok done) told = told
-put_told words before after put (Err failed) told = told
+pub put_told : (words : List (List ℕ)) (before after : Files) (put : Put) (path : List ℕ) (result : Result (Unit {0}) Failed) → path_of words put.dd ≡ Some path
+    → PutsTold before after path put.image result → PutTold words before after (Some put) result
+put_told words before after put path (Ok done) named told =
+    subst (λ o. IsSomeAnd o (λ x. (after x ≡ Some put.image) × OthersStay before after x)) (sym named) told
+put_told words before after put path (Err failed) named told = subst (λ o. IsSomeAnd o (OthersStay before after)) (sym named) told
 
-pub put_cause : (old new : Counts) (words : List (List ℕ)) (dd : Name) (result : Result (Unit {0}) Failed) → dd ≡ syslmod
-    → PutCause old new (path_for words dd) result → PutHasCause old new words result
-put_cause old new words dd (Ok done) is cause = cause
-put_cause old new words dd (Err failed) is cause = subst (λ x. PutFaultsRose old new (path_for words x)) is cause
+pub put_cause : (old new : Counts) (words : List (List ℕ)) (dd : Name) (path : List ℕ) (result : Result (Unit {0}) Failed) → dd ≡ syslmod → path_of words dd ≡ Some path
+    → PutCause old new path result → PutHasCause old new words result
+put_cause old new words dd path (Ok done) is named cause = cause
+put_cause old new words dd path (Err failed) is named cause =
+    subst (λ x. AtPath words x (PutFaultsRose old new)) is (subst (λ o. IsSomeAnd o (PutFaultsRose old new)) (sym named) cause)
 
 -- ---- a bad word
 

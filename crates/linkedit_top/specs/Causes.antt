@@ -1,5 +1,6 @@
 -- What each status says of the printed text, of the files, of the store and of the sink.
 use Rattle.std.specs.Prelude.{◌≡◌, ◌⊎◌, ℕ, List, ◌++◌, take, Option, Some, None, IsSomeAnd, Result, Ok, Err}
+use Rattle.le_bytes.specs.declared.name.Name.{Name}
 use Rattle.le_bytes.specs.declared.refusal.Refusal.{Refusal}
 use Rattle.le_bytes.specs.declared.refusal.Refusal.TheVariants as refusal
 use Rattle.command_words.specs.Keys.{syslmod}
@@ -10,7 +11,7 @@ use Rattle.linkedit_top.specs.declared.status.Status.TheVariants as status
 use Rattle.linkedit_top.specs.declared.status.Fault.TheVariants as fault
 use Rattle.linkedit_top.specs.declared.answer.Answer.{Answer}
 use Rattle.linkedit_top.specs.declared.answer.Put.{Put}
-use Rattle.linkedit_top.specs.Sets.{path_for}
+use Rattle.command_words.specs.Meaning.{path_of}
 
 -- ---- what is printed
 
@@ -30,17 +31,30 @@ Prints before after answer (status.Fault _) = after ≡ Some before
 Prints before after answer status.Memory = after ≡ Some before
 Prints before after answer result = (result ≡ answer.status) × GainsAll before after answer.text
 
+-- nothing more is held after a fault of a read or of the put and after want of memory
+abbrev pub KeepsQuiet : Option (List ℕ) → Option (List ℕ) → Status → Type 0
+KeepsQuiet before after (status.Fault fault.Print) = Unit {0}
+KeepsQuiet before after (status.Fault _) = after ≡ before
+KeepsQuiet before after status.Memory = after ≡ before
+KeepsQuiet before after _ = Unit {0}
+
+-- ---- data sets
+
+-- the words name the data set, and it is so of its path
+abbrev pub AtPath : List (List ℕ) → Name → (List ℕ → Type 0) → Type 0
+AtPath words dd So = IsSomeAnd (path_of words dd) So
+
 -- ---- the files
 
 -- the image stands at the path of its data set, and all else is as before; without a put all is
 abbrev pub Holds : List (List ℕ) → Files → Files → Option Put → Type 0
 Holds words before after None = after ≡ before
 Holds words before after (Some put) =
-    (after (path_for words put.dd) ≡ Some put.image) × OthersStay before after (path_for words put.dd)
+    AtPath words put.dd (λ path. (after path ≡ Some put.image) × OthersStay before after path)
 
 -- anything may stand at the path of the put, and all else is as before
 abbrev pub HoldsAnything : List (List ℕ) → Files → Files → Option Put → Type 0
-HoldsAnything words before after put = IsSomeAnd put (λ x. OthersStay before after (path_for words x.dd))
+HoldsAnything words before after put = IsSomeAnd put (λ x. AtPath words x.dd (OthersStay before after))
 
 -- nothing is put where a read failed or memory is wanting, anything may stand where the put failed, and else exactly
 -- the answer's image is put
@@ -52,17 +66,17 @@ FilesAfter words before after answer result = Holds words before after answer.pu
 
 -- ---- the store
 
--- which count of the store a refusal raised
+-- which count of the store a refusal raised, at the path that the words give
 abbrev pub RefusalHasCause : Counts → Counts → List (List ℕ) → Refusal → Type 0
-RefusalHasCause old new words (refusal.SetAbsent dd) = MissesRose old new (path_for words dd)
-RefusalHasCause old new words (refusal.TooLong dd) = LongsRose old new (path_for words dd)
+RefusalHasCause old new words (refusal.SetAbsent dd) = AtPath words dd (MissesRose old new)
+RefusalHasCause old new words (refusal.TooLong dd) = AtPath words dd (LongsRose old new)
 RefusalHasCause old new words _ = Unit {0}
 
--- a fault of a read comes where a read of that data set failed, one of a put where the put of SYSLMOD did, and no
--- failed call is passed over
+-- a fault of a read comes where the words name that data set and a read of it failed, one of a put where they name
+-- SYSLMOD and its put failed, and no failed call is passed over
 abbrev pub StoreHasCause : Counts → Counts → List (List ℕ) → Status → Type 0
-StoreHasCause old new words (status.Fault (fault.Read dd)) = FaultsRose old new (path_for words dd)
-StoreHasCause old new words (status.Fault (fault.Write dd)) = (dd ≡ syslmod) × PutFaultsRose old new (path_for words dd)
+StoreHasCause old new words (status.Fault (fault.Read dd)) = AtPath words dd (FaultsRose old new)
+StoreHasCause old new words (status.Fault (fault.Write dd)) = (dd ≡ syslmod) × AtPath words dd (PutFaultsRose old new)
 StoreHasCause old new words (status.Refused r) = NoFault old new × RefusalHasCause old new words r
 StoreHasCause old new words _ = NoFault old new
 
@@ -106,15 +120,23 @@ IsOwnRefusal (refusal.SetAbsent _) = ⊥
 IsOwnRefusal (refusal.TooLong _) = ⊥
 IsOwnRefusal _ = Unit {0}
 
+-- one of linking or stowing, and of no placement
+abbrev pub IsLinkRefusal : Refusal → Type 0
+IsLinkRefusal (refusal.SetAbsent _) = ⊥
+IsLinkRefusal (refusal.TooLong _) = ⊥
+IsLinkRefusal (refusal.Place _) = ⊥
+IsLinkRefusal _ = Unit {0}
+
 -- a refusal, if it is one, is of what the data sets hold
 abbrev pub IsOwnResult : {A : Type 0} → Result A Refusal → Type 0
 IsOwnResult (Ok x) = Unit {0}
 IsOwnResult (Err refusal) = IsOwnRefusal refusal
 
--- a status that the bytes of the data sets give
+-- a status that the bytes of the data sets give, and no words
 abbrev pub IsOwn : Status → Type 0
 IsOwn (status.Fault _) = ⊥
 IsOwn status.Memory = ⊥
+IsOwn (status.BadWords _ _) = ⊥
 IsOwn (status.Refused r) = IsOwnRefusal r
 IsOwn _ = Unit {0}
 

@@ -1,14 +1,14 @@
 -- What the put and the printing of an answer come to.
-use Rattle.std.specs.Prelude.{◌≡◌, ◌⊎◌, ℕ, List, Option, Result, Ok, Err}
+use Rattle.std.specs.Prelude.{◌≡◌, ◌⊎◌, ℕ, List, Option, Some, None, Result, Ok, Err}
 use Rattle.le_io.specs.Counts.{Files, Counts, NoFault, PutFaultsRose}
 use Rattle.le_io.specs.declared.store.Failed.{Failed}
 use Rattle.command_words.specs.Keys.{syslmod}
+use Rattle.command_words.specs.declared.judging.BadWord.{BadWord}
 use Rattle.linkedit_top.specs.declared.answer.Put.{Put}
 use Rattle.linkedit_top.specs.declared.status.Status.{Status}
 use Rattle.linkedit_top.specs.declared.status.Status.TheVariants as status
 use Rattle.linkedit_top.specs.declared.status.Fault.TheVariants as fault
-use Rattle.linkedit_top.specs.Sets.{path_for}
-use Rattle.linkedit_top.specs.Causes.{Holds, HoldsAnything}
+use Rattle.linkedit_top.specs.Causes.{AtPath, Holds, HoldsAnything}
 
 -- ---- the put
 
@@ -20,7 +20,7 @@ PutTold words before after put (Err _) = HoldsAnything words before after put
 -- a put that failed is counted at the path of SYSLMOD, and else none failed
 abbrev pub PutHasCause : Counts → Counts → List (List ℕ) → Result (Unit {0}) Failed → Type 0
 PutHasCause old new words (Ok _) = NoFault old new
-PutHasCause old new words (Err _) = PutFaultsRose old new (path_for words syslmod)
+PutHasCause old new words (Err _) = AtPath words syslmod (PutFaultsRose old new)
 
 -- ---- the end
 
@@ -31,10 +31,23 @@ EndsAs answered result =
 
 -- a fault of the put has its count, and else none failed
 abbrev pub EndHasCause : Counts → Counts → List (List ℕ) → Status → Type 0
-EndHasCause old new words (status.Fault (fault.Write dd)) = (dd ≡ syslmod) × PutFaultsRose old new (path_for words dd)
+EndHasCause old new words (status.Fault (fault.Write dd)) = (dd ≡ syslmod) × AtPath words dd (PutFaultsRose old new)
 EndHasCause old new words _ = NoFault old new
 
 -- the status is that of the answer, or the printing failed, or memory was wanting
 abbrev pub RefusesAs : Status → Status → Type 0
 RefusesAs answered result =
     ((result ≡ answered) ⊎ (result ≡ status.Fault fault.Print)) ⊎ (result ≡ status.Memory)
+
+-- ---- the words
+
+-- no word is called bad
+abbrev pub IsOfGoodWords : Status → Type 0
+IsOfGoodWords (status.BadWords _ _) = ⊥
+IsOfGoodWords _ = Unit {0}
+
+-- the status where this is the first bad word, if one is bad: it is told, unless the printing fails or memory is
+-- wanting; and where none is bad, none is told
+abbrev pub JudgesWords : Option BadWord → Status → Type 0
+JudgesWords (Some bad) result = RefusesAs (status.BadWords bad.word bad.what) result
+JudgesWords None result = IsOfGoodWords result

@@ -1,3 +1,4 @@
+pub mod Again
 pub mod ByProgram
 pub mod Causes
 pub mod Deciding

@@ -1,7 +1,7 @@
 -- The data sets that a command reads: in the order of their words, or the first that is refused.
-use Rattle.std.specs.Prelude.{ℕ, Bool, false, not, ◌&&◌, ◌==◌, nat_lt, if◌then◌else◌, List, [], ◌∷◌, length, take, slice_get, Option, Some, None, option_map, unwrap_or, Result, Ok, Err}
+use Rattle.std.specs.Prelude.{ℕ, Bool, false, not, ◌&&◌, ◌==◌, nat_lt, if◌then◌else◌, List, [], ◌∷◌, length, take, slice_get, Option, Some, None, option_map, Result, Ok, Err}
 use Rattle.std.specs.Str.{bytes_eq}
-use Rattle.std.specs.Option.{option_map_or}
+use Rattle.std.specs.Option.{option_and_then, option_map_or}
 use Rattle.le_bytes.specs.declared.name.Name.{Name}
 use Rattle.le_bytes.specs.Names.{name_eq}
 use Rattle.le_bytes.specs.declared.library_fault.LibFault.{LibFault}
@@ -26,9 +26,9 @@ use Rattle.pds_directory.specs.Header.{mark}
 abbrev pub set_limit : ℕ
 set_limit = 67108864
 
--- the path of the data set with this data definition name
-abbrev pub path_for : List (List ℕ) → Name → List ℕ
-path_for words dd = unwrap_or (path_of words dd) []
+-- what stands at the path of the data set with this data definition name; nothing where no word names it
+abbrev pub file_at : List (List ℕ) → Files → Name → Option (List ℕ)
+file_at words files dd = option_and_then files (path_of words dd)
 
 -- ---- libraries
 
@@ -90,7 +90,7 @@ set_as dd (Err refusal) = Err refusal
 
 -- the set of this data definition name
 unfoldable pub set_at : List (List ℕ) → Files → Name → Result Set Refusal
-set_at words files dd = set_as dd (body_at (made_version words) dd (files (path_for words dd)))
+set_at words files dd = set_as dd (body_at (made_version words) dd (file_at words files dd))
 
 -- ---- all sets
 

@@ -1,10 +1,11 @@
 //! An answer carried out: what it puts is put, and its text printed.
-ghost use Rattle.std.specs.Prelude.{◌≡◌, IfSome, IsSomeAnd, map, string_bytes};
+ghost use Rattle.std.specs.Prelude.{◌≡◌, true, IfSome, IsSomeAnd, map, string_bytes};
 ghost use Rattle.le_io.specs.Counts.{NoneFalls, WhereTold};
 ghost use Rattle.command_words.specs.Keys.{syslmod};
-ghost use Rattle.linkedit_top.specs.Causes.{FilesAfter, IsFinal, PrintedStatus, Prints, SinkHasCause};
+ghost use Rattle.linkedit_top.specs.Causes.{FilesAfter, IsFinal, KeepsQuiet, PrintedStatus, Prints, SinkHasCause};
 ghost use Rattle.linkedit_top.specs.Deciding.{PutsOutput};
 ghost use Rattle.linkedit_top.specs.Ending.{EndHasCause, EndsAs, PutHasCause, PutTold};
+ghost use Rattle.linkedit_top.specs.Go.{names_output};
 
 use crate::answer::{Answer, Put};
 use crate::reading::path_for;
@@ -21,9 +22,10 @@ pub fn carry_out<S: Store, K: Sink>(
     answer: &Answer,
 ) -> Status
     requires status { IsFinal answer.now.status }
-    requires put { PutsOutput answer.now }
+    requires put { PutsOutput (names_output (map string_bytes request.now.words.now)) answer.now }
     ensures status { EndsAs answer.now.status result }
     ensures text { WhereTold (K.held print.old) (λ held. Prints held (K.held print.new) answer.now result) }
+    ensures quiet { KeepsQuiet (K.held print.old) (K.held print.new) result }
     ensures files { WhereTold (S.told store.old) (λ files. IsSomeAnd (S.told store.new) (λ now. FilesAfter (map string_bytes request.now.words.now) files now answer.now result)) }
     ensures counts { NoneFalls (S.counts store.old) (S.counts store.new) }
     ensures store_cause { EndHasCause (S.counts store.old) (S.counts store.new) (map string_bytes request.now.words.now) result }
@@ -37,7 +39,7 @@ pub fn carry_out<S: Store, K: Sink>(
 
 /// Puts an image at the path of its data set, if there is one to put.
 fn put<S: Store>(request: &Request<'_>, store: &mut S, put: &Option<Put>) -> Result<(), Failed>
-    requires { IfSome put.now (λ put. put.dd ≡ syslmod) }
+    requires { IfSome put.now (λ put. (put.dd ≡ syslmod) × (names_output (map string_bytes request.now.words.now) ≡ true)) }
     ensures told { WhereTold (S.told store.old) (λ files. IsSomeAnd (S.told store.new) (λ now. PutTold (map string_bytes request.now.words.now) files now put.now result)) }
     ensures counts { NoneFalls (S.counts store.old) (S.counts store.new) }
     ensures cause { PutHasCause (S.counts store.old) (S.counts store.new) (map string_bytes request.now.words.now) result }
@@ -49,10 +51,12 @@ fn put<S: Store>(request: &Request<'_>, store: &mut S, put: &Option<Put>) -> Res
 }
 
 /// Prints the text of an answer.
+#[tactic(auto, using(crate::proofs::Statuses::printed_quiet))]
 pub fn printed<K: Sink>(print: &mut K, answer: &Answer) -> Status
     requires { IsFinal answer.now.status }
     ensures status { PrintedStatus answer.now.status result }
     ensures text { WhereTold (K.held print.old) (λ held. Prints held (K.held print.new) answer.now result) }
+    ensures quiet { KeepsQuiet (K.held print.old) (K.held print.new) result }
     ensures cause { SinkHasCause (K.faults print.old) (K.faults print.new) result }
 {
     match write_all(print, answer.text.as_slice()) {

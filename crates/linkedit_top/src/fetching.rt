@@ -22,7 +22,7 @@ use std::alloc::Global;
 /// # Errors
 /// Want of memory.
 pub fn fetch(alloc: Global, request: &Request<'_>, sets: Items<Set>) -> Result<Answer, Memory>
-    requires { All IsReadSet sets }
+    requires { All (IsReadSet (map string_bytes request.now.words.now)) sets }
     ensures answer { IfOk result (λ answer. answer ≡ fetch (map string_bytes request.now.words.now) sets) }
     ensures own { IfOk result (λ answer. IsOwn answer.status) }
     ensures put { IfOk result (λ answer. answer.put ≡ None) }

@@ -1,11 +1,14 @@
 //! The command `go` over its data sets.
-ghost use Rattle.std.specs.Prelude.{◌≡◌, All, IfOk, map, string_bytes};
+ghost use Rattle.std.specs.Prelude.{◌≡◌, true, All, IfOk, map, string_bytes};
 ghost use Rattle.command_words.specs.Meaning.{origin_of};
 ghost use Rattle.pds_directory.specs.declared.kinds.LibKind.TheVariants.{Modules};
 ghost use Rattle.link_core.specs.Modules.{IsStowable};
 ghost use Rattle.linkedit_top.specs.Causes.{IsOwn};
+ghost use Rattle.linkedit_top.specs.Again.{PutsForSets, PutsReadable, PutsStowed};
 ghost use Rattle.linkedit_top.specs.Deciding.{IsReadSet, PutsOutput};
+ghost use Rattle.linkedit_top.specs.Outcome.{is_built};
 ghost use Rattle.linkedit_top.specs.Go.{go, last_name, names_output, placed_answer, run_of};
+ghost use Rattle.linkedit_top.specs.Link.{with_modules};
 
 use crate::answer::Answer;
 use crate::fetching::member_text;
@@ -29,12 +32,14 @@ use std::alloc::Global;
 ///
 /// # Errors
 /// Want of memory.
-#[tactic(auto, using(crate::proofs::OutputSets::primary_short))]
+#[tactic(auto, using(crate::proofs::OutputSets::primary_short, crate::proofs::BuiltWords::heeded, crate::proofs::BuiltWords::no_syslib, crate::proofs::ReadAgain::stowed_again, crate::proofs::ReadAgain::refused_again, crate::proofs::ReadAgain::statement_again))]
 pub fn go(alloc: Global, request: &Request<'_>, sets: Items<Set>) -> Result<Answer, Memory>
-    requires { All IsReadSet sets }
+    requires read { All (IsReadSet (map string_bytes request.now.words.now)) sets }
+    requires built { is_built (map string_bytes request.now.words.now) ≡ true }
     ensures answer { IfOk result (λ answer. answer ≡ go (map string_bytes request.now.words.now) sets) }
     ensures own { IfOk result (λ answer. IsOwn answer.status) }
-    ensures put { IfOk result PutsOutput }
+    ensures again { IfOk result (PutsForSets (map string_bytes request.now.words.now) sets) }
+    ensures put { IfOk result (PutsOutput (names_output (map string_bytes request.now.words.now))) }
 {
     let version = new_version(request);
     let options = linking_options(request, output_version(sets.as_slice(), version));
@@ -62,7 +67,8 @@ fn run(
     requires stowable { All IsStowable modules }
     ensures answer { IfOk result (λ answer. answer ≡ run_of (map string_bytes request.now.words.now) library modules) }
     ensures own { IfOk result (λ answer. IsOwn answer.status) }
-    ensures put { IfOk result PutsOutput }
+    ensures again { IfOk result (PutsStowed (with_modules library modules)) }
+    ensures put { IfOk result (PutsOutput (names_output (map string_bytes request.now.words.now))) }
 {
     let status = status_for(modules.as_slice());
     let text = listings(alloc, modules.as_slice())?;
@@ -87,7 +93,8 @@ fn placed_answer(
     requires { IsOwn status }
     ensures answer { IfOk result (λ answer. answer ≡ placed_answer (map string_bytes request.now.words.now) name status text.items library.now) }
     ensures own { IfOk result (λ answer. IsOwn answer.status) }
-    ensures put { IfOk result PutsOutput }
+    ensures again { IfOk result (PutsReadable library.now) }
+    ensures put { IfOk result (PutsOutput (names_output (map string_bytes request.now.words.now))) }
 {
     let mut text = text;
     match member_text(alloc, library, name, request.origin())? {

@@ -1,8 +1,11 @@
 //! The command `link` over its data sets.
-ghost use Rattle.std.specs.Prelude.{◌≡◌, ◌==◌, not, All, IfOk, length, map, string_bytes};
+ghost use Rattle.std.specs.Prelude.{◌≡◌, ◌==◌, true, not, All, IfOk, length, map, string_bytes};
 ghost use Rattle.std.specs.List.{list_any};
 ghost use Rattle.linkedit_top.specs.Causes.{IsOwn};
+ghost use Rattle.linkedit_top.specs.Again.{PutsForSets};
 ghost use Rattle.linkedit_top.specs.Deciding.{IsReadSet, PutsOutput};
+ghost use Rattle.linkedit_top.specs.Go.{names_output};
+ghost use Rattle.linkedit_top.specs.Outcome.{is_built};
 ghost use Rattle.linkedit_top.specs.Link.{link, listings, status_for};
 
 use crate::answer::Answer;
@@ -17,16 +20,19 @@ use link_core::{LinkFault, Linked, link as link_sets};
 use pds_lib::Set;
 use std::alloc::{AllocError, Global};
 
-/// The answer of `link` for its data sets.
+/// The answer of `link` for its data sets, of words that ask for what is built and name SYSLMOD.
 ///
 /// # Errors
 /// Want of memory.
-#[tactic(auto, using(crate::proofs::OutputSets::primary_short, crate::proofs::Names::not_last, crate::proofs::Refusals::own_linking, crate::proofs::Refusals::none_before))]
+#[tactic(auto, using(crate::proofs::OutputSets::primary_short, crate::proofs::Names::not_last, crate::proofs::Refusals::own_linking, crate::proofs::Refusals::none_before, crate::proofs::BuiltWords::heeded, crate::proofs::BuiltWords::no_syslib, crate::proofs::ReadAgain::stowed_again, crate::proofs::ReadAgain::refused_again, crate::proofs::ReadAgain::statement_again))]
 pub fn link(alloc: Global, request: &Request<'_>, sets: Items<Set>) -> Result<Answer, Memory>
-    requires { All IsReadSet sets }
+    requires read { All (IsReadSet (map string_bytes request.now.words.now)) sets }
+    requires built { is_built (map string_bytes request.now.words.now) ≡ true }
+    requires named { names_output (map string_bytes request.now.words.now) ≡ true }
     ensures answer { IfOk result (λ answer. answer ≡ link (map string_bytes request.now.words.now) sets) }
     ensures own { IfOk result (λ answer. IsOwn answer.status) }
-    ensures put { IfOk result PutsOutput }
+    ensures again { IfOk result (PutsForSets (map string_bytes request.now.words.now) sets) }
+    ensures put { IfOk result (PutsOutput (names_output (map string_bytes request.now.words.now))) }
 {
     let version = new_version(request);
     let options = linking_options(request, output_version(sets.as_slice(), version));

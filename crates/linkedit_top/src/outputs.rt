@@ -1,7 +1,7 @@
 //! The library that is linked into, and how.
 ghost use Rattle.std.specs.Prelude.{◌≡◌, All, map, string_bytes, unwrap_or};
 ghost use Rattle.pds_directory.specs.declared.kinds.LibKind.TheVariants.{Modules};
-ghost use Rattle.linkedit_top.specs.Deciding.{IsReadBody, IsReadSet};
+ghost use Rattle.linkedit_top.specs.Deciding.{IsReadBody};
 ghost use Rattle.linkedit_top.specs.Link.{library_in, linking_options, output_in};
 ghost use Rattle.linkedit_top.specs.Sets.{empty_library};
 
@@ -53,7 +53,7 @@ fn version_in(body: &Body, new: Version) -> Version
 
 /// The library that is linked into, one without members and of this version where no set is named SYSLMOD.
 pub fn output_in(alloc: Global, new: Version, sets: Items<Set>) -> Library
-    requires { All IsReadSet sets }
+    requires { All (λ x. IsReadBody x.body) sets }
     ensures library { result ≡ output_in new sets }
     ensures kind { result.kind ≡ Modules }
 {

@@ -1,7 +1,8 @@
 //! The data sets that the words name, read whole.
-ghost use Rattle.std.specs.Prelude.{◌≡◌, None, All, IfOk, map, string_bytes};
+ghost use Rattle.std.specs.Prelude.{◌≡◌, None, Some, All, IfOk, IfSome, IsSome, map, string_bytes};
+ghost use Rattle.command_words.specs.Meaning.{data_set_in, path_of};
 ghost use Rattle.le_io.specs.Counts.{NoneFalls, WhereTold};
-ghost use Rattle.linkedit_top.specs.Sets.{body_at, new_version, made_version, path_for, set_at, set_of_word, sets_of};
+ghost use Rattle.linkedit_top.specs.Sets.{body_at, file_at, new_version, made_version, set_at, set_of_word, sets_of};
 ghost use Rattle.linkedit_top.specs.Deciding.{IsReadBody, IsReadSet, SetsHaveCause, Takes};
 
 use crate::bodies::{body_of, new_library};
@@ -24,7 +25,7 @@ pub fn read_sets<S: Store>(
     store: &mut S,
 ) -> Result<Result<Items<Set>, Refusal>, Stop>
     ensures sets { WhereTold (S.told store.old) (λ files. IfOk result (λ sets. sets ≡ sets_of (map string_bytes request.now.words.now) files)) }
-    ensures read { IfOk result (λ sets. IfOk sets (All IsReadSet)) }
+    ensures read { IfOk result (λ sets. IfOk sets (All (IsReadSet (map string_bytes request.now.words.now)))) }
     ensures told { S.told store.new ≡ S.told store.old }
     ensures counts { NoneFalls (S.counts store.old) (S.counts store.new) }
     ensures cause { SetsHaveCause (S.counts store.old) (S.counts store.new) (map string_bytes request.now.words.now) result }
@@ -48,9 +49,10 @@ fn take_word<S: Store>(
     word: &str,
     store: &mut S,
 ) -> Result<Result<(), Refusal>, Stop>
-    requires { All IsReadSet sets.old }
+    requires read { All (IsReadSet (map string_bytes request.now.words.now)) sets.old }
+    requires named { IfSome (data_set_in word.now) (λ s. IsSome (path_of (map string_bytes request.now.words.now) s.key)) }
     ensures sets { WhereTold (S.told store.old) (λ files. IfOk result (Takes (set_of_word (set_at (map string_bytes request.now.words.now) files) word.now) sets.old sets.new)) }
-    ensures read { IfOk result (λ _. All IsReadSet sets.new) }
+    ensures read { IfOk result (λ _. All (IsReadSet (map string_bytes request.now.words.now)) sets.new) }
     ensures told { S.told store.new ≡ S.told store.old }
     ensures counts { NoneFalls (S.counts store.old) (S.counts store.new) }
     ensures cause { SetsHaveCause (S.counts store.old) (S.counts store.new) (map string_bytes request.now.words.now) result }
@@ -76,8 +78,9 @@ fn read_set<S: Store>(
     dd: Name,
     store: &mut S,
 ) -> Result<Result<Set, Refusal>, Stop>
+    requires { IsSome (path_of (map string_bytes request.now.words.now) dd) }
     ensures set { WhereTold (S.told store.old) (λ files. IfOk result (λ set. set ≡ set_at (map string_bytes request.now.words.now) files dd)) }
-    ensures read { IfOk result (λ set. IfOk set IsReadSet) }
+    ensures read { IfOk result (λ set. IfOk set (IsReadSet (map string_bytes request.now.words.now))) }
     ensures told { S.told store.new ≡ S.told store.old }
     ensures counts { NoneFalls (S.counts store.old) (S.counts store.new) }
     ensures cause { SetsHaveCause (S.counts store.old) (S.counts store.new) (map string_bytes request.now.words.now) result }
@@ -96,7 +99,8 @@ fn read_body<S: Store>(
     dd: Name,
     store: &mut S,
 ) -> Result<Result<Body, Refusal>, Stop>
-    ensures body { WhereTold (S.told store.old) (λ files. IfOk result (λ body. body ≡ body_at (made_version (map string_bytes request.now.words.now)) dd (files (path_for (map string_bytes request.now.words.now) dd)))) }
+    requires { IsSome (path_of (map string_bytes request.now.words.now) dd) }
+    ensures body { WhereTold (S.told store.old) (λ files. IfOk result (λ body. body ≡ body_at (made_version (map string_bytes request.now.words.now)) dd (file_at (map string_bytes request.now.words.now) files dd))) }
     ensures read { IfOk result (λ body. IfOk body IsReadBody) }
     ensures told { S.told store.new ≡ S.told store.old }
     ensures counts { NoneFalls (S.counts store.old) (S.counts store.new) }
@@ -127,11 +131,15 @@ fn absent_body(alloc: Global, new: Option<Version>, dd: Name) -> Result<Body, Re
     }
 }
 
-/// The path of the data set with this data definition name.
+/// The path of the data set with this data definition name, which the words name.
 pub fn path_for<'a>(request: &Request<'a>, dd: Name) -> &'a str
-    ensures { result.now ≡ path_for (map string_bytes request.now.words.now) dd }
+    requires { IsSome (path_of (map string_bytes request.now.words.now) dd) }
+    ensures { path_of (map string_bytes request.now.words.now) dd ≡ Some result.now }
 {
-    request.path(dd).unwrap_or("")
+    match request.path(dd) {
+        Some(path) => path,
+        None => unreachable!(),
+    }
 }
 
 /// The version of a library that is new: 2 with DCBS.

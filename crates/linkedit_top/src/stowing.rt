@@ -1,9 +1,10 @@
 //! Load modules stowed in a library, and the library put.
-ghost use Rattle.std.specs.Prelude.{◌≡◌, All, IfOk};
+ghost use Rattle.std.specs.Prelude.{◌≡◌, true, None, All, IfOk};
 ghost use Rattle.pds_directory.specs.declared.kinds.LibKind.TheVariants.{Modules};
 ghost use Rattle.link_core.specs.Modules.{IsStowable};
 ghost use Rattle.linkedit_top.specs.Refusing.{refused};
 ghost use Rattle.linkedit_top.specs.Causes.{IsOwn, IsOwnRefusal};
+ghost use Rattle.linkedit_top.specs.Again.{PutsReadable, PutsStowed};
 ghost use Rattle.linkedit_top.specs.Deciding.{PutsOutput, StowsModule};
 ghost use Rattle.linkedit_top.specs.Link.{earlier_refusal, library_answer, put_answer, stowed_answer, with_modules};
 
@@ -38,7 +39,8 @@ pub fn stowed(
     requires status { IsOwn status }
     ensures answer { IfOk result (λ answer. answer ≡ stowed_answer named status text.items (with_modules library modules)) }
     ensures own { IfOk result (λ answer. IsOwn answer.status) }
-    ensures put { IfOk result PutsOutput }
+    ensures again { IfOk result (PutsStowed (with_modules library modules)) }
+    ensures put { IfOk result (PutsOutput named) }
 {
     match with_modules(alloc, library, modules) {
         Ok(Ok(library)) => library_answer(alloc, &library, named, status, text),
@@ -63,7 +65,7 @@ pub fn refused_after(
     requires stowable { All IsStowable before }
     ensures answer { IfOk result (λ answer. answer ≡ refused (earlier_refusal (with_modules library before) refusal)) }
     ensures own { IsOwnRefusal refusal → IfOk result (λ answer. IsOwn answer.status) }
-    ensures put { IfOk result PutsOutput }
+    ensures put { IfOk result (λ answer. answer.put ≡ None) }
 {
     match with_modules(alloc, library, before) {
         Ok(Ok(_)) => refused(alloc, refusal),
@@ -122,7 +124,8 @@ pub fn library_answer(
     requires { IsOwn status }
     ensures answer { IfOk result (λ answer. answer ≡ library_answer named status text.items library.now) }
     ensures own { IfOk result (λ answer. IsOwn answer.status) }
-    ensures put { IfOk result PutsOutput }
+    ensures again { IfOk result (PutsReadable library.now) }
+    ensures put { IfOk result (PutsOutput named) }
 {
     if named {
         put_answer(alloc, library, status, text)
@@ -146,7 +149,8 @@ fn put_answer(
     requires { IsOwn status }
     ensures answer { IfOk result (λ answer. answer ≡ put_answer status text.items library.now) }
     ensures own { IfOk result (λ answer. IsOwn answer.status) }
-    ensures put { IfOk result PutsOutput }
+    ensures again { IfOk result (PutsReadable library.now) }
+    ensures put { IfOk result (PutsOutput true) }
 {
     let size = image_length(library);
     if size > SET_LIMIT {

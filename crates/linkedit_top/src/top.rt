@@ -1,11 +1,12 @@
 //! The top call.
-ghost use Rattle.std.specs.Prelude.{◌≡◌, IsSomeAnd, map, string_bytes};
+ghost use Rattle.std.specs.Prelude.{◌≡◌, IfSome, IsSomeAnd, map, string_bytes};
 ghost use Rattle.le_io.specs.Counts.{NoneFalls, WhereTold};
+ghost use Rattle.command_words.specs.Judged.{bad_word};
 ghost use Rattle.linkedit_top.specs.Outcome.{good_words, outcome};
 ghost use Rattle.linkedit_top.specs.Refusing.{bad_words};
-ghost use Rattle.linkedit_top.specs.Causes.{Completes, FilesAfter, HasStatus, Prints, StoreHasCause, SinkHasCause};
-ghost use Rattle.linkedit_top.specs.Ending.{RefusesAs};
-ghost use Rattle.linkedit_top.specs.Headline.{IsJudged, LinksAsPromised};
+ghost use Rattle.linkedit_top.specs.Causes.{Completes, FilesAfter, HasStatus, KeepsQuiet, Prints, StoreHasCause, SinkHasCause};
+ghost use Rattle.linkedit_top.specs.Ending.{IsOfGoodWords, JudgesWords, RefusesAs};
+ghost use Rattle.linkedit_top.specs.Headline.{IsJudged, IsReadAgain, LinksAsPromised};
 
 use crate::deciding::answer;
 use crate::ending::{carry_out, printed};
@@ -37,6 +38,11 @@ pub fn linkedit<S: Store, K: Sink>(
     ensures files { WhereTold (S.told store.old) (λ files. IsSomeAnd (S.told store.new)
         (λ now. FilesAfter (map string_bytes words.now) files now (outcome (map string_bytes words.now) files) result)) }
     ensures promised { WhereTold (S.told store.old) (λ files. IsJudged result → LinksAsPromised (map string_bytes words.now) files (outcome (map string_bytes words.now) files)) }
+    ensures again { WhereTold (S.told store.old) (λ files. IsJudged result → IsReadAgain (map string_bytes words.now) files (outcome (map string_bytes words.now) files)) }
+    ensures quiet { KeepsQuiet (K.held print.old) (K.held print.new) result }
+    ensures words { JudgesWords (bad_word (map string_bytes words.now)) result }
+    ensures refused { IfSome (bad_word (map string_bytes words.now)) (λ bad. WhereTold (K.held print.old) (λ held. Prints held (K.held print.new) (bad_words bad) result)) }
+    ensures untouched { IfSome (bad_word (map string_bytes words.now)) (λ _. store.new ≡ store.old) }
     ensures complete { WhereTold (S.told store.old) (λ files. Completes (S.counts store.old) (S.counts store.new) (K.faults print.old) (K.faults print.new) (outcome (map string_bytes words.now) files).status result) }
     ensures counts { NoneFalls (S.counts store.old) (S.counts store.new) }
     ensures store_cause { StoreHasCause (S.counts store.old) (S.counts store.new) (map string_bytes words.now) result }
@@ -49,7 +55,7 @@ pub fn linkedit<S: Store, K: Sink>(
 }
 
 /// Does what good words ask for.
-#[tactic(auto, using(crate::proofs::Statuses::has_status))]
+#[tactic(auto, using(crate::proofs::Statuses::has_status, crate::proofs::Statuses::good_end))]
 fn run<S: Store, K: Sink>(
     alloc: Global,
     request: &Request<'_>,
@@ -61,6 +67,9 @@ fn run<S: Store, K: Sink>(
     ensures files { WhereTold (S.told store.old) (λ files. IsSomeAnd (S.told store.new)
         (λ now. FilesAfter (map string_bytes request.now.words.now) files now (good_words (map string_bytes request.now.words.now) files) result)) }
     ensures promised { WhereTold (S.told store.old) (λ files. IsJudged result → LinksAsPromised (map string_bytes request.now.words.now) files (good_words (map string_bytes request.now.words.now) files)) }
+    ensures again { WhereTold (S.told store.old) (λ files. IsJudged result → IsReadAgain (map string_bytes request.now.words.now) files (good_words (map string_bytes request.now.words.now) files)) }
+    ensures quiet { KeepsQuiet (K.held print.old) (K.held print.new) result }
+    ensures good { IsOfGoodWords result }
     ensures status { WhereTold (S.told store.old) (λ files. HasStatus (good_words (map string_bytes request.now.words.now) files).status result) }
     ensures counts { NoneFalls (S.counts store.old) (S.counts store.new) }
     ensures store_cause { StoreHasCause (S.counts store.old) (S.counts store.new) (map string_bytes request.now.words.now) result }
@@ -77,6 +86,7 @@ fn run<S: Store, K: Sink>(
 fn refuse_words<K: Sink>(alloc: Global, bad: BadWord, print: &mut K) -> Status
     ensures status { RefusesAs (bad_words bad).status result }
     ensures text { WhereTold (K.held print.old) (λ held. Prints held (K.held print.new) (bad_words bad) result) }
+    ensures quiet { KeepsQuiet (K.held print.old) (K.held print.new) result }
     ensures cause { SinkHasCause (K.faults print.old) (K.faults print.new) result }
 {
     match bad_words(alloc, bad) {

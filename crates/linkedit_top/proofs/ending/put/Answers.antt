@@ -9,6 +9,5 @@ pub returns-in-Some-clause-told : goal.returns-in-Some-clause-told
 returns-in-Some-clause-told g c files told =
     subst (λ o. IsSomeAnd (g.S.Store.told c.put.new.self) (λ now. PutTold (map string_bytes c.args.request.now.words.now) files now o c.put.result)) (sym c.in-Some.is)
     (some_so (g.S.Store.told c.put.new.self) (c.put.ensures.told files told)
-    (λ now puts. put_told (map string_bytes c.args.request.now.words.now) files now c.in-Some.put c.put.result
-    (subst (λ path. PutsTold files now path c.in-Some.put.image c.put.result) c.path_for.ensures
-    (subst (λ bytes. PutsTold files now c.path_for.result.now bytes c.put.result) c.as_slice.ensures puts))))
+    (λ now puts. put_told (map string_bytes c.args.request.now.words.now) files now c.in-Some.put c.path_for.result.now c.put.result c.path_for.ensures
+    (subst (λ bytes. PutsTold files now c.path_for.result.now bytes c.put.result) c.as_slice.ensures puts)))

@@ -5,16 +5,16 @@ use Rattle.le_bytes.specs.Names.{name_eq}
 use Rattle.command_words.specs.Keys.{syslmod}
 use Rattle.pds_directory.specs.declared.kinds.Version.{Version}
 use Rattle.pds_lib.specs.declared.set.Set.{Set}
-use Rattle.linkedit_top.specs.Deciding.{IsReadSet}
+use Rattle.linkedit_top.specs.Deciding.{IsReadBody}
 use Rattle.linkedit_top.specs.Link.{output_in}
 use Rattle.linkedit_top.proofs.OutputSets.{is_passed}
 use Rattle.linkedit_top.proofs.outputs.output_in.Goals as goal
 
 -- one set passed over
 passed : (new : Version) (x : Set) (items rest whole : List Set) → items ≡ x ∷ rest → name_eq x.dd syslmod ≡ false
-    → (output_in new items ≡ output_in new whole) × All IsReadSet items → (output_in new rest ≡ output_in new whole) × All IsReadSet rest
+    → (output_in new items ≡ output_in new whole) × All (λ (x : Set). IsReadBody x.body) items → (output_in new rest ≡ output_in new whole) × All (λ (x : Set). IsReadBody x.body) rest
 passed new x items rest whole is other so_far =
-    (sym (is_passed new x rest other) ∙ (sym (ap (output_in new) is) ∙ so_far.0), All-tail IsReadSet x rest (subst (All IsReadSet) is so_far.1))
+    (sym (is_passed new x rest other) ∙ (sym (ap (output_in new) is) ∙ so_far.0), All-tail (λ (x : Set). IsReadBody x.body) x rest (subst (All (λ (x : Set). IsReadBody x.body)) is so_far.1))
 
 pub loop-set-preserved-else-eq : goal.loop-set-preserved-else-eq
 loop-set-preserved-else-eq c =

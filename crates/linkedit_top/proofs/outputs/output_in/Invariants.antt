@@ -1,10 +1,11 @@
 use Rattle.std.proofs.Common.{◌≡◌, All}
 use Rattle.std.specs.Vec.Iter.{into_iter_items}
-use Rattle.linkedit_top.specs.Deciding.{IsReadSet}
+use Rattle.linkedit_top.specs.Deciding.{IsReadBody}
+use Rattle.pds_lib.specs.declared.set.Set.{Set}
 use Rattle.linkedit_top.specs.Link.{output_in}
 use Rattle.linkedit_top.proofs.outputs.output_in.Given as goal
 
 abbrev pub invariant-loop-set : goal.invariant-loop-set
 invariant-loop-set l =
     (output_in l.new (into_iter_items l.set-iterator) ≡ output_in l.new (into_iter_items l.initial.set-iterator))
-    × All IsReadSet (into_iter_items l.set-iterator)
+    × All (λ (x : Set). IsReadBody x.body) (into_iter_items l.set-iterator)

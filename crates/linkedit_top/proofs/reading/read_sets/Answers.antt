@@ -1,6 +1,7 @@
 use Rattle.std.proofs.Common.{◌∙◌, map, string_bytes, subst, Ok}
 use Rattle.linkedit_top.specs.Deciding.{SetsHaveCause}
 use Rattle.linkedit_top.specs.Sets.{set_at, sets_of}
+use Rattle.linkedit_top.proofs.BuiltWords.{word_named}
 use Rattle.linkedit_top.proofs.SetsRead.{goes_on_at, stops_at, ends_at}
 use Rattle.linkedit_top.proofs.Statuses.{no_fault, none_falls}
 use Rattle.linkedit_top.proofs.reading.read_sets.Goals as goal
@@ -27,3 +28,7 @@ pub returns-clause-sets : goal.returns-clause-sets
 returns-clause-sets g c files told =
     ends_at (set_at (map string_bytes c.args.request.now.words.now) files) c.loop-word.sets c.args.request.now.words.now c.loop-word.word-index
     (sets_of (map string_bytes c.args.request.now.words.now) files) (c.loop-word.invariant.0 files told) c.loop-word-test.false
+
+pub take_word-requires-clause-named : goal.take_word-requires-clause-named
+take_word-requires-clause-named g c =
+    word_named c.args.request.now.words.now c.loop-word.word-index c.word-item.result c.as_str.result.now c.loop-word-test.true c.word-item.is c.as_str.ensures.value

@@ -9,7 +9,7 @@ abbrev pub invariant-loop-word : goal.invariant-loop-word
 invariant-loop-word g l =
     WhereTold (g.S.Store.told l.fn.store)
     (λ files. onto l.sets (sets_in (set_at (map string_bytes l.request.words.now) files) (map string_bytes (drop l.word-index l.word-items))) ≡ sets_of (map string_bytes l.request.words.now) files)
-    × All IsReadSet l.sets
+    × All (IsReadSet (map string_bytes l.request.words.now)) l.sets
     × (g.S.Store.told l.store ≡ g.S.Store.told l.fn.store)
     × NoneFalls (g.S.Store.counts l.fn.store) (g.S.Store.counts l.store)
     × NoFault (g.S.Store.counts l.fn.store) (g.S.Store.counts l.store)
