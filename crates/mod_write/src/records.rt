@@ -9,8 +9,8 @@ ghost use Rattle.mod_write.specs.Written.{bytes_of_segments, note_bytes};
 
 use crate::naming::Format;
 use crate::segments::{Source, segments};
-use mod_heads::{head_records, note_records};
 use le_bytes::{Bytes, Items, Memory};
+use mod_heads::{head_records, note_records};
 use std::alloc::{AllocError, Global};
 use text_store::TextKeeper;
 
