@@ -1,0 +1,2 @@
+-- Laws of runs: which trees OVERLAY statements give, and what holds of a written member while it runs.
+pub mod Grown
