@@ -1,1 +1,9 @@
+pub mod FetchedMembers
 pub mod GrownTrees
+pub mod OutOfOrder
+pub mod ReadAlone
+pub mod SegmentTables
+pub mod StartedMembers
+pub mod NotesRight
+pub mod Starting
+pub mod TreesStart

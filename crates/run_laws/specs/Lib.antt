@@ -1,2 +1,3 @@
 -- Laws of runs: which trees OVERLAY statements give, and what holds of a written member while it runs.
 pub mod Grown
+pub mod Starts

@@ -3,6 +3,10 @@
 //! programs that can be linked.
 #![tactic(auto)]
 
+mod beginning;
 mod growing;
 
+pub use beginning::{
+    a_tree_that_is_not_grown, grown_members_start, notes_are_exact, segments_read_alone,
+};
 pub use growing::{grown_trees_are_trees, statements_grow_trees, statements_keep_trees_grown};

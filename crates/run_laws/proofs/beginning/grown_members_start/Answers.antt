@@ -1,0 +1,5 @@
+use Rattle.run_laws.proofs.StartedMembers.{grown_members_start}
+use Rattle.run_laws.proofs.beginning.grown_members_start.Goals as goal
+
+pub returns : goal.returns
+returns c = grown_members_start
