@@ -2,6 +2,7 @@ pub mod FetchedMembers
 pub mod GrownTrees
 pub mod OutOfOrder
 pub mod ReadAlone
+pub mod ResidentPaths
 pub mod SegmentTables
 pub mod StartedMembers
 pub mod NotesRight

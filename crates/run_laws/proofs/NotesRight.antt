@@ -35,11 +35,11 @@ use Rattle.run_laws.proofs.TreesStart.{none_of_range, Says}
 
 -- ---- the root stands first
 
-filter_none : (test : ℕ → Bool) (xs : List ℕ) → Each (λ x. test x ≡ false) xs → filter test xs ≡ []
+pub filter_none : (test : ℕ → Bool) (xs : List ℕ) → Each (λ x. test x ≡ false) xs → filter test xs ≡ []
 filter_none test [] fails = refl
 filter_none test (x ∷ xs) fails = rw (fails.0) (filter_none test xs fails.1)
 
-range_each : (Q : ℕ → Type 0) (a n : ℕ) → ((k : ℕ) → a ≤ k → k < a + n → Q k) → Each Q (range_with_len a n)
+pub range_each : (Q : ℕ → Type 0) (a n : ℕ) → ((k : ℕ) → a ≤ k → k < a + n → Q k) → Each Q (range_with_len a n)
 range_each Q a zero holds = tt
 range_each Q a (suc n) holds = (holds a (omega arith) (omega arith), range_each Q (a + 1) n (λ k low high. holds k (omega (arith, low)) (omega (arith, high))))
 

@@ -1,3 +1,4 @@
 -- Laws of runs: which trees OVERLAY statements give, and what holds of a written member while it runs.
 pub mod Grown
 pub mod Starts
+pub mod Residents

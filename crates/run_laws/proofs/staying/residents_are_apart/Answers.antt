@@ -1,0 +1,5 @@
+use Rattle.run_laws.proofs.ResidentPaths.{residents_are_apart}
+use Rattle.run_laws.proofs.staying.residents_are_apart.Goals as goal
+
+pub returns : goal.returns
+returns c = residents_are_apart
