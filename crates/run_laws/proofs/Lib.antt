@@ -1,6 +1,8 @@
 pub mod FetchedMembers
+pub mod FoundTables
 pub mod GrownTrees
 pub mod OutOfOrder
+pub mod PartsApart
 pub mod ReadAlone
 pub mod ResidentPaths
 pub mod SegmentTables

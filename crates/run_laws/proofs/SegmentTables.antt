@@ -23,6 +23,7 @@ use Rattle.member_laws.proofs.Membership.{Has}
 use Rattle.std.proofs.lemmas.Option.{none-some}
 use Rattle.linking_model.specs.Run.{sections_in}
 use Rattle.member_laws.proofs.Distinct.{number_at}
+use Rattle.run_laws.specs.EntryTables.{ReadsTable}
 use Rattle.run_laws.proofs.FetchedMembers.{IsFetched, count_is}
 
 -- ---- the bytes of a segment table
@@ -129,10 +130,6 @@ position_first test (y ∷ ys) x there passes = rw (ap test (is y x there) ∙ p
     is y x same = cc
 
 -- ---- what is read
-
--- the table of the member, which stands as it is linked but for the status bytes
-pub record ReadsTable (P : Laid) (at : ℕ) (resident : List ℕ) (M : Storage) : Type 0 where
-  pub bytes : (k : ℕ) → k < segtab_length P.tree → M (at + k) ≡ slice_index (segtab_bytes P.tree resident) k
 
 pub item_is : (P : Laid) (scatter : Bool) (n : ℕ) (Q : Placement) (m : Fetched) → IsLinkable P → IsFetched P scatter n Q m → is_overlay P.tree ≡ true
     → segtab_item m ≡ Some 1

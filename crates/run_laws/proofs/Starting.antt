@@ -25,8 +25,9 @@ use Rattle.member_laws.specs.Linkable.{IsLinkable, IsFormat}
 use Rattle.member_laws.proofs.LoadingItems.{among_true}
 use Rattle.member_laws.proofs.LoadingBlock.{size_of_segtab}
 use Rattle.run_laws.specs.Grown.{IsGrown}
+use Rattle.run_laws.specs.EntryTables.{ReadsTable}
 use Rattle.run_laws.proofs.FetchedMembers.{IsFetched, count_is}
-use Rattle.run_laws.proofs.SegmentTables.{ReadsTable, item_is, table_at, byte_is, parent_is, region_is, table_count, table_regions}
+use Rattle.run_laws.proofs.SegmentTables.{item_is, table_at, byte_is, parent_is, region_is, table_count, table_regions}
 use Rattle.run_laws.proofs.TreesStart.{none_of_range, Says, highest_region, places_are_right, orders_are_right}
 
 -- ---- the segment table at the start

@@ -1,4 +1,5 @@
 -- Laws of runs: which trees OVERLAY statements give, and what holds of a written member while it runs.
+pub mod EntryTables
 pub mod Grown
 pub mod Starts
 pub mod Residents
