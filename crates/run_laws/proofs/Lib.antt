@@ -7,6 +7,8 @@ pub mod ReadAlone
 pub mod ResidentPaths
 pub mod SegmentTables
 pub mod StartedMembers
+pub mod ItemsOfConstants
 pub mod NotesRight
 pub mod Starting
+pub mod TouchedConstants
 pub mod TreesStart

@@ -1,3 +1,4 @@
+-- The law is a lemma on all programs.
 use Rattle.run_laws.proofs.StartedMembers.{notes_are_exact}
 use Rattle.run_laws.proofs.beginning.notes_are_exact.Goals as goal
 

@@ -1,3 +1,4 @@
+-- The law is a lemma on all programs.
 use Rattle.run_laws.proofs.ResidentPaths.{calls_keep_paths}
 use Rattle.run_laws.proofs.staying.calls_keep_paths.Goals as goal
 
