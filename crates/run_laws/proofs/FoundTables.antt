@@ -366,7 +366,7 @@ stands_in P (Unresolved i) link symbol defined = absurd (false≢true defined)
 stands_in P (OfRegister i) link symbol defined = absurd (false≢true defined)
 stands_in P Total link symbol defined = absurd (false≢true defined)
 
-home_segment : (p : Program) (y : Target) → is_defined y ≡ true → segment_of p y ≡ segment_of_section p (home p y)
+pub home_segment : (p : Program) (y : Target) → is_defined y ≡ true → segment_of p y ≡ segment_of_section p (home p y)
 home_segment p (InSection i) defined = refl
 home_segment p (AtLabel i) defined = refl
 home_segment p (Unresolved i) defined = absurd (false≢true defined)

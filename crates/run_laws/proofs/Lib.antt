@@ -1,9 +1,11 @@
+pub mod EntriesBack
 pub mod FetchedMembers
 pub mod FoundTables
 pub mod GrownTrees
 pub mod OutOfOrder
 pub mod PartsApart
 pub mod ReadAlone
+pub mod ReadEntries
 pub mod ResidentPaths
 pub mod SegmentTables
 pub mod StartedMembers

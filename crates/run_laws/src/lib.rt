@@ -13,6 +13,6 @@ pub use beginning::{
     a_tree_that_is_not_grown, grown_members_start, notes_are_exact, segments_read_alone,
 };
 pub use growing::{grown_trees_are_trees, statements_grow_trees, statements_keep_trees_grown};
-pub use reaching::{direct_addresses_are_in_no_table, one_table_is_found};
+pub use reaching::{direct_addresses_are_in_no_table, entries_are_read_back, one_table_is_found};
 pub use staying::{calls_keep_paths, residents_are_apart, root_is_resident};
 pub use touching::stores_touch_alike;
