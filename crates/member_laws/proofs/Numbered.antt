@@ -51,7 +51,7 @@ pub record IsPart (P : Laid) (x : Part) : Type 0 where
   pub high : in_segment ≤ length P.tree
   pub is : IsPartOf P in_segment x
 
-pub has-part-in : (P : Laid) (s : ℕ) (x : Part) → IsPartOf P s x → Has (parts_in P s) x
+has-part-in : (P : Laid) (s : ℕ) (x : Part) → IsPartOf P s x → Has (parts_in P s) x
 has-part-in P s SegmentTable is =
     has-left _ (if entry_count P s == 0 then [] else EntryTable s ∷ []) SegmentTable
     (has-left (if has_segtab P.tree s then SegmentTable ∷ [] else []) (map (λ i. OneSection i) (sections_in P.program s)) SegmentTable

@@ -3,6 +3,7 @@ pub mod FetchedMembers
 pub mod FoundTables
 pub mod GrownTrees
 pub mod OutOfOrder
+pub mod PartIn
 pub mod PartsApart
 pub mod ReadAlone
 pub mod ReadEntries

@@ -11,10 +11,10 @@ use Rattle.member_laws.proofs.LoadingBlock.{at_place, block_fits}
 use Rattle.member_laws.proofs.LoadingFields.{Apart}
 use Rattle.member_laws.proofs.LoadingLists.{Among, Pairs, at_one}
 use Rattle.member_laws.proofs.LoadingTargets.{among_parts_in}
-use Rattle.member_laws.proofs.Numbered.{has-part-in}
 use Rattle.member_laws.proofs.Standing.{IsPartOf, stands_well}
 use Rattle.run_laws.specs.Residents.{AreResident}
 use Rattle.run_laws.proofs.NotesRight.{part_begins}
+use Rattle.run_laws.proofs.PartIn.{has-part-in}
 use Rattle.run_laws.proofs.ResidentPaths.{resident_within, residents_are_apart}
 use Rattle.run_laws.proofs.SegmentTables.{among_of_has}
 
