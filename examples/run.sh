@@ -1,6 +1,6 @@
 #!/usr/bin/env bash
-# Runs every command that README.md, docs/USING.md and the examples of man/linkedit.1 show, in a new folder, and compares what each
-# prints and its exit status with what stands there. `linkedit` has to be on the path, or built in crates/linkedit/out.
+# Runs every command that README.md, docs/USING.md, docs/REFUSALS.md and the examples of man/linkedit.1 show, in a new
+# folder, and compares what each prints, on standard output and standard error, and its exit status with what stands there. `linkedit` has to be on the path, or built in crates/linkedit/out.
 set -eu
 cd "$(dirname "$0")/.."
 exec python3 - <<'PY'
@@ -36,7 +36,7 @@ def run(name, commands):
     with tempfile.TemporaryDirectory() as folder:
         shutil.copytree("examples", os.path.join(folder, "examples"))
         for text, lines, status in commands:
-            ran = subprocess.run(["bash", "-c", text], cwd=folder, env=environment, capture_output=True, text=True)
+            ran = subprocess.run(["bash", "-c", text], cwd=folder, env=environment, stdout=subprocess.PIPE, stderr=subprocess.STDOUT, text=True)
             done += 1
             if lines is not None and ran.stdout.splitlines() != lines or ran.returncode != status:
                 bad += 1
