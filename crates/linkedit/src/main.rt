@@ -43,15 +43,18 @@ fn words(rt: &HostRuntime) -> io::Result<Vec<String>> {
 /// outside that failed, and that memory ran out.
 fn explain(rt: &impl Eprint, status: Status) -> io::Result<()> {
     match status {
-        Status::BadWords(_, _) => eprintln!(
-            rt;
+        Status::BadWords(_, _) => eprintln!(rt;
             "usage: linkedit link|go|fetch|list|replay|gen|migrate|ldr|ahead|tasks KEY=value .. (see man linkedit)"
         ),
         Status::Fault(Fault::Read(dd)) => explain_set(rt, "reading", &dd),
         Status::Fault(Fault::Write(dd)) => explain_set(rt, "writing", &dd),
-        Status::Fault(Fault::Print) => eprintln!(rt; "linkedit: printing on standard output failed"),
+        Status::Fault(Fault::Print) => eprintln!(rt;
+            "linkedit: printing on standard output failed"
+        ),
         Status::Memory => eprintln!(rt; "linkedit: out of memory"),
-        Status::Done | Status::DoneWithUnresolved | Status::Refused(_) | Status::NotBuilt(_) => Ok(()),
+        Status::Done | Status::DoneWithUnresolved | Status::Refused(_) | Status::NotBuilt(_) => Ok(
+            (),
+        ),
     }
 }
 
