@@ -17,13 +17,12 @@ use Rattle.command_words.proofs.AskedLemmas.{name_eq-true, no_key, path_asked, v
 use Rattle.pds_directory.specs.declared.kinds.Version.{Version}
 use Rattle.pds_lib.specs.declared.set.Set.{Set}
 use Rattle.pds_lib.proofs.ReadSound.{same_name}
-use Rattle.link_core.specs.Linking.{are_heeded}
 use Rattle.link_core.specs.Sets.{has_set}
-use Rattle.linkedit_top.specs.Deciding.{IsReadSet}
-use Rattle.linkedit_top.specs.Go.{names_output}
-use Rattle.linkedit_top.specs.Link.{linking_options}
+use Rattle.command_sets.specs.Reading.{IsReadSet}
+use Rattle.command_sets.specs.Sets.{names_output}
+use Rattle.command_link.specs.Link.{are_heeded_options}
 use Rattle.linkedit_top.specs.Outcome.{are_built_options, are_built_settings, is_built, is_built_setting}
-use Rattle.linkedit_top.proofs.SetsRead.{from_place}
+use Rattle.command_sets.proofs.SetsRead.{from_place}
 
 pub both : (a b : Bool) → (a && b) ≡ true → (a ≡ true) × (b ≡ true)
 both true true is = (refl, refl)
@@ -41,8 +40,8 @@ heeded_of false false false false true s r is = absurd cc
 heeded_of false false false false false s r is = refl
 
 -- every option of linking that is on is heeded
-pub heeded : (words : List (List ℕ)) (version : Version) → is_built words ≡ true → are_heeded (linking_options words version) ≡ true
-heeded words version built =
+pub heeded : (words : List (List ℕ)) → is_built words ≡ true → are_heeded_options words ≡ true
+heeded words built =
     let o : WordOptions = options_of words in
     heeded_of o.map o.xref o.ncal o.xcal o.ovly o.sctr o.rent (both (are_built_settings words) (are_built_options o) built).1
 
@@ -136,37 +135,3 @@ no_syslib words sets c built named all = none_of words sets (no_path words c bui
 
 pub link_names : (words : List (List ℕ)) → bad_word words ≡ None → command_of words ≡ Some Link → names_output words ≡ true
 link_names words good named = path_asked words Link syslmod good named refl refl
-
--- ---- a word that names a set
-
-any_later : {Z : Type 0} (p : List ℕ → Bool) (words : List (String Z)) (k : ℕ) → list_any p (map string_bytes (drop k words)) ≡ true → list_any p (map string_bytes words) ≡ true
-any_later p words zero there = there
-any_later p [] (suc k) there = there
-any_later p (word ∷ words) (suc k) there = later (p (string_bytes word)) (list_any p (map string_bytes words)) (any_later p words k there)
-  where
-    later : (a b : Bool) → b ≡ true → (a || b) ≡ true
-    later true b is = refl
-    later false b is = is
-
-of_setting : (words : List (List ℕ)) (text : List ℕ) (o : Option KeyValue) → key_value text ≡ o → ((key : Name) → has_key key text ≡ true → is_given key words ≡ true)
-    → IfSome (option_and_then (λ (s : KeyValue). if is_reserved s.key then None else Some s) o) (λ s. IsSome (path_of words s.key))
-unfolding path_of
-of_setting words text None is given = tt
-of_setting words text (Some s) is given = cases (is_reserved s.key) refl
-  where
-    here : has_key s.key text ≡ true
-    here = rw is (same_name s.key)
-
-    cases : (b : Bool) → is_reserved s.key ≡ b → IfSome (if b then None else Some s) (λ s. IsSome (if is_reserved s.key then None else value_in s.key words))
-    cases true reserved = tt
-    cases false free = rw free (value_given s.key words (given s.key here))
-
--- the data set that a word names has a path
-pub word_named : {Z : Type 0} (words : List (String Z)) (k : ℕ) (item : String Z) (text : List ℕ) → k < length words → item ≡ get_or words k item → text ≡ string_bytes item
-    → IfSome (data_set_in text) (λ s. IsSome (path_of (map string_bytes words) s.key))
-unfolding data_set_in
-word_named words k item text within is shown =
-    of_setting (map string_bytes words) text (key_value text) refl
-    (λ key has. any_later (has_key key) words k
-    (let first : has_key key (string_bytes (get_or words k item)) ≡ true = subst (λ t. has_key key t ≡ true) (shown ∙ ap string_bytes is) has in
-    rw (from_place words k item within) (rw first refl)))

@@ -5,9 +5,9 @@ use Rattle.command_words.specs.declared.command.Command.{Command}
 use Rattle.command_words.specs.Meaning.{command_of}
 use Rattle.le_io.specs.Counts.{Files}
 use Rattle.pds_lib.specs.declared.set.Set.{Set}
-use Rattle.linkedit_top.specs.declared.answer.Answer.{Answer}
-use Rattle.linkedit_top.specs.Refusing.{refused, unbuilt}
-use Rattle.linkedit_top.specs.Sets.{sets_of}
+use Rattle.command_sets.specs.declared.answer.Answer.{Answer}
+use Rattle.command_sets.specs.Refusing.{refused, unbuilt}
+use Rattle.command_sets.specs.Sets.{sets_of}
 use Rattle.command_words.specs.Judged.{bad_word}
 use Rattle.linkedit_top.specs.Outcome.{command_answer, good_words, is_built, judged_words, outcome, sets_answer}
 

@@ -25,26 +25,28 @@ use Rattle.link_core.specs.Programs.{program_of_cards}
 use Rattle.link_core.specs.Modules.{Stands, linked_module, listing, may_be_unresolved, wanting_names}
 use Rattle.link_core.specs.Linking.{linking, linking_of}
 use Rattle.link_core.specs.Sets.{primary_cards}
-use Rattle.linkedit_top.specs.declared.answer.Answer.{Answer}
-use Rattle.linkedit_top.specs.declared.answer.Put.{Put}
-use Rattle.linkedit_top.specs.declared.status.Status.{Status}
-use Rattle.linkedit_top.specs.declared.status.Status.TheVariants.{Done, DoneWithUnresolved, Refused}
-use Rattle.linkedit_top.specs.Deciding.{IsReadSet}
-use Rattle.linkedit_top.specs.Fetch.{entry_text, fetch, found_answer, is_other_form, member_text, text_answer}
-use Rattle.linkedit_top.specs.Go.{go, going, names_output, placed_lines, placed_or, placed_status}
-use Rattle.linkedit_top.specs.Link.{earlier_refusal, image_size, library_answer, link, linking_answer, linking_options, listings, output_in, put_answer, status_for, stowed_answer, unless_refused, with_module, with_modules}
-use Rattle.linkedit_top.specs.Refusing.{bad_words, refused, unbuilt, unbuilt_card}
-use Rattle.linkedit_top.specs.Sets.{made_by, made_version, new_version, set_limit, sets_of}
+use Rattle.command_sets.specs.declared.answer.Answer.{Answer}
+use Rattle.command_sets.specs.declared.answer.Put.{Put}
+use Rattle.command_sets.specs.declared.status.Status.{Status}
+use Rattle.command_sets.specs.declared.status.Status.TheVariants.{Done, DoneWithUnresolved, Refused}
+use Rattle.command_sets.specs.Reading.{IsReadSet}
+use Rattle.command_fetch.specs.Fetch.{entry_text, fetch, found_answer, is_other_form, member_text, text_answer}
+use Rattle.linkedit_top.specs.Go.{go, placed_stowed}
+use Rattle.command_sets.specs.Sets.{names_output, made_by, made_version, new_version, set_limit, sets_of, cards_at, library_at}
+use Rattle.command_fetch.specs.Placed.{placed_lines, placed_status}
+use Rattle.command_link.specs.Link.{earlier_refusal, link, linking_options, listings, put_stowed, status_for, stowed_for, stowed_linking, stowed_of, unless_refused, with_module, with_modules}
+use Rattle.command_sets.specs.Libraries.{image_size, library_answer, output_in, put_answer, MayBePut, output_put}
+use Rattle.command_sets.specs.Refusing.{bad_words, refused, unbuilt, unbuilt_card}
 use Rattle.linkedit_top.specs.Outcome.{command_answer, is_built, judged_words, outcome, sets_answer}
 use Rattle.linkedit_top.specs.ByProgram.{program_text}
-use Rattle.linkedit_top.specs.Headline.{AreLinked, AreTaken, EndsLinked, IsPromised, KeepsPromise, LinksAsPromised, LinksProgram, MayBePut, OutcomesAreAsPromised, PutsProgram, UnlessRefused, cards_at, library_at, library_with, module_for, output_put, program_answer, program_at, program_lines, program_status, put_of, status_of}
-use Rattle.linkedit_top.proofs.NamedSets.{cards_are, output_is}
-use Rattle.linkedit_top.proofs.OutputSets.{primary_bytes}
-use Rattle.linkedit_top.proofs.SetRefusals.{IsOfNoPlace, link_no_place, set_no_place}
-use Rattle.linkedit_top.proofs.Refusals.{IsOwnStow, own_cards, own_module}
+use Rattle.linkedit_top.specs.Headline.{AreLinked, AreTaken, EndsLinked, IsPromised, KeepsPromise, LinksAsPromised, LinksProgram, OutcomesAreAsPromised, PutsProgram, UnlessRefused, library_with, module_for, program_answer, program_at, program_lines, program_status, put_of, status_of}
+use Rattle.command_link.proofs.PrimarySets.{cards_are, primary_bytes}
+use Rattle.command_sets.proofs.NamedSets.{output_is}
+use Rattle.command_sets.proofs.SetRefusals.{IsOfNoPlace, link_no_place, set_no_place}
+use Rattle.command_link.proofs.Refusals.{IsOwnStow, own_cards, own_module}
 use Rattle.linkedit_top.proofs.PrintedPrograms.{stowed_modules_print_programs}
-use Rattle.linkedit_top.proofs.Standing.{name_whole, program_stands}
-use Rattle.linkedit_top.proofs.StowedModules.{ends}
+use Rattle.command_link.proofs.Standing.{name_whole, program_stands}
+use Rattle.command_link.proofs.StowedModules.{ends}
 
 -- ---- answers that put nothing, and whose status is none of linking
 
@@ -200,14 +202,14 @@ module _ (Taken : Type 0) (words : List (List ℕ)) (lib : Contents) (p : Progra
   abbrev its_listing : List ℕ
   its_listing = listings (its_module ∷ [])
 
-  link_stowed : (r : Result Contents Refusal) → with_module lib its_module ≡ r → KeepsPromise Taken Link words lib (Ok p) (stowed_answer true its_status its_listing r)
+  link_stowed : (r : Result Contents Refusal) → with_module lib its_module ≡ r → KeepsPromise Taken Link words lib (Ok p) (put_stowed (stowed_of (its_module ∷ []) r))
   link_stowed (Err refusal) is = keeps_unstowed Taken Link words lib p refusal is (no_place words lib p refusal is)
   link_stowed (Ok after) is =
       keeps Taken Link words lib after p stands is its_status its_listing (library_answer true its_status its_listing after) (carried after its_status its_listing true)
       (status_is (linking_options words lib.version) p) (listing_is (linking_options words lib.version) p)
 
-  link_one : KeepsPromise Taken Link words lib (Ok p) (stowed_answer true its_status its_listing (with_modules lib (its_module ∷ [])))
-  link_one = subst (λ r. KeepsPromise Taken Link words lib (Ok p) (stowed_answer true its_status its_listing r)) (sym (one_module lib its_module)) (link_stowed (with_module lib its_module) refl)
+  link_one : KeepsPromise Taken Link words lib (Ok p) (put_stowed (stowed_of (its_module ∷ []) (with_modules lib (its_module ∷ []))))
+  link_one = subst (λ r. KeepsPromise Taken Link words lib (Ok p) (put_stowed (stowed_of (its_module ∷ []) r))) (sym (one_module lib its_module)) (link_stowed (with_module lib its_module) refl)
 
   -- the status and the lines of a member that is placed, or is not
   abbrev placed : Result (List ℕ) Refusal → Contents → Answer
@@ -221,14 +223,14 @@ module _ (Taken : Type 0) (words : List (List ℕ)) (lib : Contents) (p : Progra
       (ap (λ s. placed_status s text) (status_is (linking_options words lib.version) p) ∙ ap (placed_status (status_of p)) is)
       (ap (λ l. l ++ placed_lines text) (listing_is (linking_options words lib.version) p) ∙ ap (λ r. listing (module_name_of words) p ++ placed_lines r) is)
 
-  go_stowed : (r : Result Contents Refusal) → with_module lib its_module ≡ r → KeepsPromise Taken Go words lib (Ok p) (placed_or words (its_module ∷ []) r)
+  go_stowed : (r : Result Contents Refusal) → with_module lib its_module ≡ r → KeepsPromise Taken Go words lib (Ok p) (placed_stowed words (stowed_of (its_module ∷ []) r))
   go_stowed (Err refusal) is = keeps_unstowed Taken Go words lib p refusal is (no_place words lib p refusal is)
   go_stowed (Ok after) is =
       go_placed after is (member_text after its_module.member.name (origin_of words))
       (stowed_modules_print_programs lib after (linking_options words lib.version) p its_module (origin_of words) stands is)
 
-  go_one : KeepsPromise Taken Go words lib (Ok p) (placed_or words (its_module ∷ []) (with_modules lib (its_module ∷ [])))
-  go_one = subst (λ r. KeepsPromise Taken Go words lib (Ok p) (placed_or words (its_module ∷ []) r)) (sym (one_module lib its_module)) (go_stowed (with_module lib its_module) refl)
+  go_one : KeepsPromise Taken Go words lib (Ok p) (placed_stowed words (stowed_of (its_module ∷ []) (with_modules lib (its_module ∷ []))))
+  go_one = subst (λ r. KeepsPromise Taken Go words lib (Ok p) (placed_stowed words (stowed_of (its_module ∷ []) r))) (sym (one_module lib its_module)) (go_stowed (with_module lib its_module) refl)
 
 module _ (Taken : Type 0) (words : List (List ℕ)) (lib : Contents) (cards : List ℕ) (bytes : AreBytes cards) where
   abbrev its_options : Options
@@ -246,13 +248,13 @@ module _ (Taken : Type 0) (words : List (List ℕ)) (lib : Contents) (cards : Li
       subst (λ r. IsQuiet (refused (earlier_refusal r refusal))) (sym (ends lib))
       (refused_quiet refusal (link_no_place refusal (own_cards cards (may_be_unresolved its_options) refusal is)))
 
-  link_keeps : (r : Result Program ProgramFault) → its_program ≡ r → KeepsPromise Taken Link words lib r (linking_answer lib (linking_of its_options r))
+  link_keeps : (r : Result Program ProgramFault) → its_program ≡ r → KeepsPromise Taken Link words lib r (put_stowed (stowed_linking lib (linking_of its_options r)))
   link_keeps (Err (RefusedProgram refusal)) is =
       keeps_refused Taken Link words lib (RefusedProgram refusal) (refused (earlier_refusal (with_modules lib []) refusal)) (refused_program refusal is)
   link_keeps (Err (Statement number)) is = keeps_refused Taken Link words lib (Statement number) (unbuilt_card number) (card_quiet number)
   link_keeps (Ok p) is = link_one Taken words lib p (stood p is)
 
-  go_keeps : (r : Result Program ProgramFault) → its_program ≡ r → KeepsPromise Taken Go words lib r (going words lib (linking_of its_options r))
+  go_keeps : (r : Result Program ProgramFault) → its_program ≡ r → KeepsPromise Taken Go words lib r (placed_stowed words (stowed_linking lib (linking_of its_options r)))
   go_keeps (Err (RefusedProgram refusal)) is =
       keeps_refused Taken Go words lib (RefusedProgram refusal) (refused (earlier_refusal (with_modules lib []) refusal)) (refused_program refusal is)
   go_keeps (Err (Statement number)) is = keeps_refused Taken Go words lib (Statement number) (unbuilt_card number) (card_quiet number)
@@ -264,14 +266,14 @@ Keeps Taken command words lib cards a = KeepsPromise Taken command words lib (pr
 
 link_sets : (Taken : Type 0) (words : List (List ℕ)) (sets : List Set) → AreBytes (primary_cards sets)
     → Keeps Taken Link words (output_in (new_version words) sets) (primary_cards sets) (link words sets)
-unfolding linking
+unfolding linking stowed_for
 link_sets Taken words sets bytes =
     let lib : Contents = output_in (new_version words) sets in
     link_keeps Taken words lib (primary_cards sets) bytes (program_of_cards (primary_cards sets) (may_be_unresolved (linking_options words lib.version))) refl
 
 go_sets : (Taken : Type 0) (words : List (List ℕ)) (sets : List Set) → AreBytes (primary_cards sets)
     → Keeps Taken Go words (output_in (new_version words) sets) (primary_cards sets) (go words sets)
-unfolding linking
+unfolding linking stowed_for
 go_sets Taken words sets bytes =
     let lib : Contents = output_in (new_version words) sets in
     go_keeps Taken words lib (primary_cards sets) bytes (program_of_cards (primary_cards sets) (may_be_unresolved (linking_options words lib.version))) refl

@@ -1,15 +1,5 @@
 pub mod BuiltWords
 pub mod Decided
 pub mod Headline
-pub mod LibraryKinds
-pub mod NamedSets
-pub mod Names
-pub mod OutputSets
 pub mod PrintedPrograms
 pub mod ReadAgain
-pub mod Refusals
-pub mod SetRefusals
-pub mod SetsRead
-pub mod Standing
-pub mod Statuses
-pub mod StowedModules

@@ -36,8 +36,8 @@ use Rattle.link_core.specs.declared.linked.Linked.{Linked}
 use Rattle.link_core.specs.declared.options.Options.{Options}
 use Rattle.link_core.specs.Programs.{entry_address}
 use Rattle.link_core.specs.Modules.{naming}
-use Rattle.linkedit_top.specs.Link.{stowed_or, with_module}
-use Rattle.linkedit_top.specs.Fetch.{told_as, entry_text, found_text, member_text}
+use Rattle.command_link.specs.Link.{stowed_or, with_module}
+use Rattle.command_fetch.specs.Fetch.{told_as, entry_text, found_text, member_text}
 use Rattle.linkedit_top.specs.ByProgram.{program_text, StowedModulesPrintPrograms}
 
 -- ---- the member found

@@ -15,8 +15,8 @@ use Rattle.link_core.specs.declared.linked.Linked.{Linked}
 use Rattle.link_core.specs.declared.options.Options.{Options}
 use Rattle.link_core.specs.Programs.{entry_address}
 use Rattle.link_core.specs.Modules.{naming}
-use Rattle.linkedit_top.specs.Link.{with_module}
-use Rattle.linkedit_top.specs.Fetch.{member_text}
+use Rattle.command_link.specs.Link.{with_module}
+use Rattle.command_fetch.specs.Fetch.{member_text}
 
 -- where the program is entered and its linked bytes, with the module at the origin, or that it may not stand there
 abbrev pub program_text : Program → ℕ → Result (List ℕ) Refusal

@@ -20,14 +20,15 @@ use Rattle.link_core.specs.declared.linked.Linked.{Linked}
 use Rattle.link_core.specs.declared.program.ProgramFault.{ProgramFault}
 use Rattle.link_core.specs.Programs.{program_of_cards}
 use Rattle.link_core.specs.Modules.{Stands, linked_module, listing, may_be_unresolved, wanting_names}
-use Rattle.linkedit_top.specs.declared.answer.Answer.{Answer}
-use Rattle.linkedit_top.specs.declared.answer.Put.{Put}
-use Rattle.linkedit_top.specs.declared.status.Status.{Status}
-use Rattle.linkedit_top.specs.declared.status.Status.TheVariants.{Done, DoneWithUnresolved, Refused, Fault, Memory}
-use Rattle.linkedit_top.specs.declared.status.Fault.TheVariants.{Read}
-use Rattle.linkedit_top.specs.Sets.{empty_library, file_at, new_version, set_limit, sets_of}
-use Rattle.linkedit_top.specs.Link.{linking_options, with_module}
-use Rattle.linkedit_top.specs.Go.{names_output, placed_lines, placed_status}
+use Rattle.command_sets.specs.declared.answer.Answer.{Answer}
+use Rattle.command_sets.specs.declared.answer.Put.{Put}
+use Rattle.command_sets.specs.declared.status.Status.{Status}
+use Rattle.command_sets.specs.declared.status.Status.TheVariants.{Done, DoneWithUnresolved, Refused, Fault, Memory}
+use Rattle.command_sets.specs.declared.status.Fault.TheVariants.{Read}
+use Rattle.command_sets.specs.Libraries.{output_put, MayBePut}
+use Rattle.command_sets.specs.Sets.{cards_at, library_or_new, library_at, empty_library, file_at, new_version, set_limit, sets_of, names_output}
+use Rattle.command_link.specs.Link.{linking_options, with_module}
+use Rattle.command_fetch.specs.Placed.{placed_lines, placed_status}
 use Rattle.linkedit_top.specs.ByProgram.{program_text}
 use Rattle.linkedit_top.specs.Outcome.{is_built, outcome}
 
@@ -50,14 +51,6 @@ abbrev pub UnlessRefused : List (List ℕ) → Contents → Result Program Progr
 UnlessRefused words lib r So = IfOk r (λ p. IfOk (library_with words lib p) (So p))
 
 -- ---- what is put
-
--- the image of this library, at SYSLMOD
-abbrev pub output_put : Contents → Put
-output_put lib = record { dd = syslmod; image = written lib }
-
--- an image is no longer than a data set may be
-abbrev pub MayBePut : Put → Type 0
-MayBePut put = length put.image ≤ set_limit
 
 -- the put is that of the library with the member, and the program stands in the member
 pub record PutsProgram (words : List (List ℕ)) (before : Contents) (put : Put) (p : Program) (after : Contents) : Type 0 where
@@ -118,21 +111,6 @@ pub record KeepsPromise (Taken : Type 0) (command : Command) (words : List (List
   pub links : Taken → UnlessRefused words lib r (λ p after. IfSome (put_of command words after) MayBePut → LinksProgram command words lib answer p after)
 
 -- ---- words and files
-
--- the bytes that stand at SYSLIN, and none where no word names it
-abbrev pub cards_at : List (List ℕ) → Files → List ℕ
-cards_at words files = unwrap_or (file_at words files syslin) []
-
--- the library of this image, or one of this version without members where there are no bytes; where an image holds no
--- library nothing is put and nothing ends well
-abbrev pub library_or_new : Version → Option (List ℕ) → Contents
-library_or_new version None = empty_library version
-library_or_new version (Some image) =
-    if length image == 0 then empty_library version else result_unwrap_or (library_of image) (empty_library version)
-
--- the library that stands at SYSLMOD, or one without members
-abbrev pub library_at : List (List ℕ) → Files → Contents
-library_at words files = library_or_new (new_version words) (file_at words files syslmod)
 
 -- the program of the cards at SYSLIN, linked for that library, or what is refused of them
 abbrev pub program_at : List (List ℕ) → Files → Result Program ProgramFault

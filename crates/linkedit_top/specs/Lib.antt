@@ -1,13 +1,6 @@
 pub mod Again
 pub mod ByProgram
-pub mod Causes
 pub mod Deciding
-pub mod Ending
-pub mod Exits
-pub mod Fetch
 pub mod Go
 pub mod Headline
-pub mod Link
 pub mod Outcome
-pub mod Refusing
-pub mod Sets

@@ -12,12 +12,12 @@ use Rattle.command_words.specs.Word.{has_key}
 use Rattle.command_words.specs.Meaning.{command_of, options_of}
 use Rattle.pds_lib.specs.declared.set.Set.{Set}
 use Rattle.le_io.specs.Counts.{Files}
-use Rattle.linkedit_top.specs.declared.answer.Answer.{Answer}
-use Rattle.linkedit_top.specs.Refusing.{bad_words, refused, unbuilt}
-use Rattle.linkedit_top.specs.Sets.{sets_of}
-use Rattle.linkedit_top.specs.Fetch.{fetch}
+use Rattle.command_sets.specs.declared.answer.Answer.{Answer}
+use Rattle.command_sets.specs.Refusing.{bad_words, refused, unbuilt}
+use Rattle.command_sets.specs.Sets.{sets_of}
+use Rattle.command_fetch.specs.Fetch.{fetch}
 use Rattle.linkedit_top.specs.Go.{go}
-use Rattle.linkedit_top.specs.Link.{link}
+use Rattle.command_link.specs.Link.{link}
 
 -- ---- what is built
 

@@ -1,4 +1,5 @@
 //! What good words ask for, decided before anything is put or printed.
+ghost use Rattle.command_words.specs.Seen.{words_of};
 ghost use Rattle.std.specs.Prelude.{◌≡◌, ◌||◌, true, All, IfOk, Some, map, string_bytes};
 ghost use Rattle.std.specs.List.{list_all};
 ghost use Rattle.le_io.specs.Counts.{NoneFalls, WhereTold};
@@ -6,20 +7,19 @@ ghost use Rattle.command_words.specs.Keys.{syslin, syslmod, member, origin, parm
 ghost use Rattle.command_words.specs.Meaning.{command_of};
 ghost use Rattle.command_words.specs.Word.{has_key};
 ghost use Rattle.linkedit_top.specs.Again.{PutsAgain};
-ghost use Rattle.linkedit_top.specs.Causes.{IsOwn};
-ghost use Rattle.linkedit_top.specs.Ending.{IsOfGoodWords};
-ghost use Rattle.linkedit_top.specs.Go.{names_output};
+ghost use Rattle.command_sets.specs.Causes.{IsOwn};
+ghost use Rattle.command_sets.specs.Ending.{IsOfGoodWords};
+ghost use Rattle.command_sets.specs.Sets.{names_output};
 ghost use Rattle.linkedit_top.specs.Outcome.{are_built_options, are_built_settings, command_answer, good_words, is_built, is_built_setting};
-ghost use Rattle.linkedit_top.specs.Deciding.{Decides, HasCause, IsReadSet, PutsOutput};
+ghost use Rattle.linkedit_top.specs.Deciding.{Decides, HasCause};
+ghost use Rattle.command_sets.specs.Reading.{IsReadSet};
+ghost use Rattle.command_sets.specs.Libraries.{PutsOutput};
 ghost use Rattle.linkedit_top.specs.Headline.{IsReadAgain, LinksAsPromised};
 
-use crate::answer::Answer;
-use crate::fetching::fetch;
 use crate::going::go;
-use crate::linking::link;
-use crate::reading::read_sets;
-use crate::refusing::{refused, unbuilt};
-use crate::stop::Stop;
+use command_fetch::fetch;
+use command_link::link;
+use command_sets::{Answer, Stop, read_sets, refused, unbuilt};
 use command_words::keys::{MEMBER, ORIGIN, PARM, SYSLIN, SYSLMOD};
 use command_words::{Command, Options, Request, has_key};
 use le_bytes::{Items, Memory};
@@ -31,16 +31,16 @@ use std::alloc::Global;
 ///
 /// # Errors
 /// A failed read; want of memory.
-#[tactic(auto, using(crate::proofs::Decided::decided, crate::proofs::Decided::declined, crate::proofs::Decided::not_built, crate::proofs::Headline::sets_promised, crate::proofs::Headline::refused_promised, crate::proofs::Headline::unbuilt_promised, crate::proofs::ReadAgain::none_again, crate::proofs::ReadAgain::sets_again, crate::proofs::Statuses::own_cause, crate::proofs::Statuses::own_final, crate::proofs::Statuses::own_good))]
+#[tactic(auto, using(crate::proofs::Decided::decided, crate::proofs::Decided::declined, crate::proofs::Decided::not_built, crate::proofs::Headline::sets_promised, crate::proofs::Headline::refused_promised, crate::proofs::Headline::unbuilt_promised, crate::proofs::ReadAgain::none_again, crate::proofs::ReadAgain::sets_again, command_sets::proofs::Statuses::own_cause, command_sets::proofs::Statuses::own_final, command_sets::proofs::Statuses::own_good))]
 pub fn answer<S: Store>(alloc: Global, request: &Request<'_>, store: &mut S) -> Result<Answer, Stop>
-    ensures answer { WhereTold (S.told store.old) (λ files. Decides (good_words (map string_bytes request.now.words.now) files) result) }
-    ensures promised { WhereTold (S.told store.old) (λ files. IfOk result (LinksAsPromised (map string_bytes request.now.words.now) files)) }
-    ensures again { WhereTold (S.told store.old) (λ files. IfOk result (IsReadAgain (map string_bytes request.now.words.now) files)) }
+    ensures answer { WhereTold (S.told store.old) (λ files. Decides (good_words (words_of request.now) files) result) }
+    ensures promised { WhereTold (S.told store.old) (λ files. IfOk result (LinksAsPromised (words_of request.now) files)) }
+    ensures again { WhereTold (S.told store.old) (λ files. IfOk result (IsReadAgain (words_of request.now) files)) }
     ensures good { IfOk result (λ answer. IsOfGoodWords answer.status) }
-    ensures put { IfOk result (PutsOutput (names_output (map string_bytes request.now.words.now))) }
+    ensures put { IfOk result (PutsOutput (names_output (words_of request.now))) }
     ensures told { S.told store.new ≡ S.told store.old }
     ensures counts { NoneFalls (S.counts store.old) (S.counts store.new) }
-    ensures cause { HasCause (S.counts store.old) (S.counts store.new) (map string_bytes request.now.words.now) result }
+    ensures cause { HasCause (S.counts store.old) (S.counts store.new) (words_of request.now) result }
 {
     if !is_built(request) {
         return Ok(unbuilt(alloc)?);
@@ -53,14 +53,14 @@ pub fn answer<S: Store>(alloc: Global, request: &Request<'_>, store: &mut S) -> 
 }
 
 /// The answer of the command for its data sets.
-#[tactic(auto, using(crate::proofs::BuiltWords::link_names))]
+#[tactic(auto, using(crate::proofs::BuiltWords::link_names, crate::proofs::BuiltWords::heeded, crate::proofs::BuiltWords::no_syslib))]
 fn command_answer(alloc: Global, request: &Request<'_>, sets: Items<Set>) -> Result<Answer, Memory>
-    requires read { All (IsReadSet (map string_bytes request.now.words.now)) sets }
-    requires built { is_built (map string_bytes request.now.words.now) ≡ true }
-    ensures answer { IfOk result (λ answer. answer ≡ command_answer (Some request.now.command) (map string_bytes request.now.words.now) sets) }
-    ensures again { IfOk result (PutsAgain request.now.command (map string_bytes request.now.words.now) sets) }
+    requires read { All (IsReadSet (words_of request.now)) sets }
+    requires built { is_built (words_of request.now) ≡ true }
+    ensures answer { IfOk result (λ answer. answer ≡ command_answer (Some request.now.command) (words_of request.now) sets) }
+    ensures again { IfOk result (PutsAgain request.now.command (words_of request.now) sets) }
     ensures own { IfOk result (λ answer. IsOwn answer.status) }
-    ensures put { IfOk result (PutsOutput (names_output (map string_bytes request.now.words.now))) }
+    ensures put { IfOk result (PutsOutput (names_output (words_of request.now))) }
 {
     match request.command {
         Command::Go => go(alloc, request, sets),
@@ -72,7 +72,7 @@ fn command_answer(alloc: Global, request: &Request<'_>, sets: Items<Set>) -> Res
 
 /// Whether the words ask for what is built.
 fn is_built(request: &Request<'_>) -> bool
-    ensures { result ≡ is_built (map string_bytes request.now.words.now) }
+    ensures { result ≡ is_built (words_of request.now) }
 {
     are_built_settings(request.command, request.words) && are_built_options(request.options())
 }

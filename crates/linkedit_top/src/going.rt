@@ -1,29 +1,23 @@
 //! The command `go` over its data sets.
-ghost use Rattle.std.specs.Prelude.{◌≡◌, true, All, IfOk, map, string_bytes};
-ghost use Rattle.command_words.specs.Meaning.{origin_of};
-ghost use Rattle.pds_directory.specs.declared.kinds.LibKind.TheVariants.{Modules};
-ghost use Rattle.link_core.specs.Modules.{IsStowable};
-ghost use Rattle.linkedit_top.specs.Causes.{IsOwn};
-ghost use Rattle.linkedit_top.specs.Again.{PutsForSets, PutsReadable, PutsStowed};
-ghost use Rattle.linkedit_top.specs.Deciding.{IsReadSet, PutsOutput};
-ghost use Rattle.linkedit_top.specs.Outcome.{is_built};
-ghost use Rattle.linkedit_top.specs.Go.{go, last_name, names_output, placed_answer, run_of};
-ghost use Rattle.linkedit_top.specs.Link.{with_modules};
+ghost use Rattle.command_words.specs.Seen.{words_of};
+ghost use Rattle.command_words.specs.Keys.{syslib};
+ghost use Rattle.std.specs.Prelude.{◌≡◌, true, false, All, IfOk};
+ghost use Rattle.link_core.specs.Sets.{has_set};
+ghost use Rattle.command_sets.specs.Causes.{IsOwn};
+ghost use Rattle.command_sets.specs.Libraries.{PutsOutput, PutsReadable};
+ghost use Rattle.command_sets.specs.Reading.{IsReadSet};
+ghost use Rattle.command_sets.specs.Sets.{names_output};
+ghost use Rattle.command_link.specs.Link.{are_heeded_options, stowed_for};
+ghost use Rattle.command_link.specs.Stowing.{PutsStowed};
+ghost use Rattle.command_fetch.specs.Placed.{placed_answer};
+ghost use Rattle.linkedit_top.specs.Go.{go};
 
-use crate::answer::Answer;
-use crate::fetching::member_text;
-use crate::linking::{listings, status_for};
-use crate::outputs::{linking_options, output_in, output_version};
-use crate::reading::new_version;
-use crate::refusing::{refused, unbuilt_card};
-use crate::status::Status;
-use crate::stowing::{library_answer, refused_after, with_modules};
+use command_fetch::placed_answer;
+use command_link::{Stowed, stowed_for};
+use command_sets::Answer;
 use command_words::Request;
-use command_words::keys::{SYSLMOD, TEMPNAME};
-use le_bytes::{Items, Memory, Name};
-use link_core::{LinkFault, Linked, link as link_sets};
-use map_list::push_refusal;
-use pds_lib::{Library, Set};
+use le_bytes::{Items, Memory};
+use pds_lib::Set;
 use std::alloc::Global;
 
 /// The answer of `go` for its data sets: what `link` does, and then the last load module, fetched from the
@@ -32,102 +26,35 @@ use std::alloc::Global;
 ///
 /// # Errors
 /// Want of memory.
-#[tactic(auto, using(crate::proofs::OutputSets::primary_short, crate::proofs::BuiltWords::heeded, crate::proofs::BuiltWords::no_syslib, crate::proofs::ReadAgain::stowed_again, crate::proofs::ReadAgain::refused_again, crate::proofs::ReadAgain::statement_again))]
 pub fn go(alloc: Global, request: &Request<'_>, sets: Items<Set>) -> Result<Answer, Memory>
-    requires read { All (IsReadSet (map string_bytes request.now.words.now)) sets }
-    requires built { is_built (map string_bytes request.now.words.now) ≡ true }
-    ensures answer { IfOk result (λ answer. answer ≡ go (map string_bytes request.now.words.now) sets) }
+    requires read { All (IsReadSet (words_of request.now)) sets }
+    requires options { are_heeded_options (words_of request.now) ≡ true }
+    requires library { has_set syslib sets ≡ false }
+    ensures answer { IfOk result (λ answer. answer ≡ go (words_of request.now) sets) }
     ensures own { IfOk result (λ answer. IsOwn answer.status) }
-    ensures again { IfOk result (PutsForSets (map string_bytes request.now.words.now) sets) }
-    ensures put { IfOk result (PutsOutput (names_output (map string_bytes request.now.words.now))) }
+    ensures again { IfOk result (PutsStowed (stowed_for (words_of request.now) sets)) }
+    ensures put { IfOk result (PutsOutput (names_output (words_of request.now))) }
 {
-    let version = new_version(request);
-    let options = linking_options(request, output_version(sets.as_slice(), version));
-    let linked = link_sets(alloc, sets.as_slice(), &options);
-    let library = output_in(alloc, version, sets);
-    match linked {
-        Ok(modules) => run(alloc, request, library, modules),
-        Err(LinkFault::Refused(refusal, before)) => {
-            refused_after(alloc, library, before, refusal)
-        }
-        Err(LinkFault::Statement(number)) => unbuilt_card(alloc, number),
-        Err(LinkFault::Memory) => Err(Memory),
-    }
-}
-
-/// The answer for load modules: they are stowed in the library, and the last of them is placed.
-#[tactic(auto, using(crate::proofs::Refusals::own_stows))]
-fn run(
-    alloc: Global,
-    request: &Request<'_>,
-    library: Library,
-    modules: Items<Linked>,
-) -> Result<Answer, Memory>
-    requires kind { library.kind ≡ Modules }
-    requires stowable { All IsStowable modules }
-    ensures answer { IfOk result (λ answer. answer ≡ run_of (map string_bytes request.now.words.now) library modules) }
-    ensures own { IfOk result (λ answer. IsOwn answer.status) }
-    ensures again { IfOk result (PutsStowed (with_modules library modules)) }
-    ensures put { IfOk result (PutsOutput (names_output (map string_bytes request.now.words.now))) }
-{
-    let status = status_for(modules.as_slice());
-    let text = listings(alloc, modules.as_slice())?;
-    let name = last_name(modules.as_slice());
-    match with_modules(alloc, library, modules) {
-        Ok(Ok(library)) => placed_answer(alloc, request, &library, name, status, text),
-        Ok(Err(refusal)) => refused(alloc, refusal),
+    match stowed_for(alloc, request, sets) {
+        Ok(Ok(stowed)) => placed(alloc, request, stowed),
+        Ok(Err(answer)) => Ok(answer),
         Err(_) => Err(Memory),
     }
 }
 
-/// The answer for the library with the load modules: the lines of the placed member, or of why it is not
-/// placed, come after theirs.
-fn placed_answer(
-    alloc: Global,
-    request: &Request<'_>,
-    library: &Library,
-    name: Name,
-    status: Status,
-    text: Vec<u8>,
-) -> Result<Answer, Memory>
-    requires { IsOwn status }
-    ensures answer { IfOk result (λ answer. answer ≡ placed_answer (map string_bytes request.now.words.now) name status text.items library.now) }
+/// The answer for the library of load modules, of which the last is placed.
+fn placed(alloc: Global, request: &Request<'_>, stowed: Stowed) -> Result<Answer, Memory>
+    requires { IsOwn stowed.status }
+    ensures answer { IfOk result (λ answer. answer ≡ placed_answer (words_of request.now) stowed.last stowed.status stowed.text stowed.library) }
     ensures own { IfOk result (λ answer. IsOwn answer.status) }
-    ensures again { IfOk result (PutsReadable library.now) }
-    ensures put { IfOk result (PutsOutput (names_output (map string_bytes request.now.words.now))) }
+    ensures again { IfOk result (PutsReadable stowed.library) }
+    ensures put { IfOk result (PutsOutput (names_output (words_of request.now))) }
 {
-    let mut text = text;
-    match member_text(alloc, library, name, request.origin())? {
-        Ok(dump) => {
-            text.extend_from_slice(dump.as_slice())?;
-            library_answer(alloc, library, names_output(request), status, text)
-        }
-        Err(refusal) => {
-            push_refusal(&mut text, &refusal)?;
-            library_answer(
-                alloc,
-                library,
-                names_output(request),
-                Status::Refused(refusal),
-                text,
-            )
-        }
-    }
-}
-
-/// The name of the last load module; there always is one.
-fn last_name(modules: &[Linked]) -> Name
-    ensures { result ≡ last_name modules.now }
-{
-    match modules.last() {
-        Some(module) => module.member.name,
-        None => TEMPNAME,
-    }
-}
-
-/// Whether SYSLMOD is named.
-fn names_output(request: &Request<'_>) -> bool
-    ensures { result ≡ names_output (map string_bytes request.now.words.now) }
-{
-    request.path(SYSLMOD).is_some()
+    let Stowed {
+        library,
+        last,
+        status,
+        text,
+    } = stowed;
+    placed_answer(alloc, request, &library, last, status, text.into_vec())
 }

@@ -1,18 +1,16 @@
 //! The top call.
+ghost use Rattle.command_words.specs.Seen.{words_of};
 ghost use Rattle.std.specs.Prelude.{◌≡◌, IfSome, IsSomeAnd, map, string_bytes};
 ghost use Rattle.le_io.specs.Counts.{NoneFalls, WhereTold};
 ghost use Rattle.command_words.specs.Judged.{bad_word};
 ghost use Rattle.linkedit_top.specs.Outcome.{good_words, outcome};
-ghost use Rattle.linkedit_top.specs.Refusing.{bad_words};
-ghost use Rattle.linkedit_top.specs.Causes.{Completes, FilesAfter, HasStatus, KeepsQuiet, Prints, StoreHasCause, SinkHasCause};
-ghost use Rattle.linkedit_top.specs.Ending.{IsOfGoodWords, JudgesWords, RefusesAs};
+ghost use Rattle.command_sets.specs.Refusing.{bad_words};
+ghost use Rattle.command_sets.specs.Causes.{Completes, FilesAfter, HasStatus, KeepsQuiet, Prints, StoreHasCause, SinkHasCause};
+ghost use Rattle.command_sets.specs.Ending.{IsOfGoodWords, JudgesWords, RefusesAs};
 ghost use Rattle.linkedit_top.specs.Headline.{IsJudged, IsReadAgain, LinksAsPromised};
 
 use crate::deciding::answer;
-use crate::ending::{carry_out, printed};
-use crate::refusing::bad_words;
-use crate::status::{Fault, Status};
-use crate::stop::Stop;
+use command_sets::{Fault, Status, Stop, bad_words, carry_out, printed};
 use command_words::{BadWord, Request, read_words};
 use le_io::{Sink, Store};
 use std::alloc::Global;
@@ -26,7 +24,7 @@ use std::alloc::Global;
 ///
 /// What `link` and `go` put and print is said of the program of their cards too (`promised`): it stands in the
 /// member that is put, and `go` prints its entry point and its linked bytes.
-#[tactic(auto, using(crate::proofs::Statuses::completes, crate::proofs::Statuses::has_status_refused), unfolding(crate::specs::Outcome::outcome))]
+#[tactic(auto, using(command_sets::proofs::Statuses::completes, command_sets::proofs::Statuses::has_status_refused), unfolding(crate::specs::Outcome::outcome))]
 pub fn linkedit<S: Store, K: Sink>(
     alloc: Global,
     words: &[String],
@@ -55,7 +53,7 @@ pub fn linkedit<S: Store, K: Sink>(
 }
 
 /// Does what good words ask for.
-#[tactic(auto, using(crate::proofs::Statuses::has_status, crate::proofs::Statuses::good_end))]
+#[tactic(auto, using(command_sets::proofs::Statuses::has_status, command_sets::proofs::Statuses::good_end))]
 fn run<S: Store, K: Sink>(
     alloc: Global,
     request: &Request<'_>,
@@ -63,16 +61,16 @@ fn run<S: Store, K: Sink>(
     print: &mut K,
 ) -> Status
     ensures exact { WhereTold (S.told store.old) (λ files. WhereTold (K.held print.old)
-        (λ held. Prints held (K.held print.new) (good_words (map string_bytes request.now.words.now) files) result)) }
+        (λ held. Prints held (K.held print.new) (good_words (words_of request.now) files) result)) }
     ensures files { WhereTold (S.told store.old) (λ files. IsSomeAnd (S.told store.new)
-        (λ now. FilesAfter (map string_bytes request.now.words.now) files now (good_words (map string_bytes request.now.words.now) files) result)) }
-    ensures promised { WhereTold (S.told store.old) (λ files. IsJudged result → LinksAsPromised (map string_bytes request.now.words.now) files (good_words (map string_bytes request.now.words.now) files)) }
-    ensures again { WhereTold (S.told store.old) (λ files. IsJudged result → IsReadAgain (map string_bytes request.now.words.now) files (good_words (map string_bytes request.now.words.now) files)) }
+        (λ now. FilesAfter (words_of request.now) files now (good_words (words_of request.now) files) result)) }
+    ensures promised { WhereTold (S.told store.old) (λ files. IsJudged result → LinksAsPromised (words_of request.now) files (good_words (words_of request.now) files)) }
+    ensures again { WhereTold (S.told store.old) (λ files. IsJudged result → IsReadAgain (words_of request.now) files (good_words (words_of request.now) files)) }
     ensures quiet { KeepsQuiet (K.held print.old) (K.held print.new) result }
     ensures good { IsOfGoodWords result }
-    ensures status { WhereTold (S.told store.old) (λ files. HasStatus (good_words (map string_bytes request.now.words.now) files).status result) }
+    ensures status { WhereTold (S.told store.old) (λ files. HasStatus (good_words (words_of request.now) files).status result) }
     ensures counts { NoneFalls (S.counts store.old) (S.counts store.new) }
-    ensures store_cause { StoreHasCause (S.counts store.old) (S.counts store.new) (map string_bytes request.now.words.now) result }
+    ensures store_cause { StoreHasCause (S.counts store.old) (S.counts store.new) (words_of request.now) result }
     ensures sink_cause { SinkHasCause (K.faults print.old) (K.faults print.new) result }
 {
     match answer(alloc, request, store) {

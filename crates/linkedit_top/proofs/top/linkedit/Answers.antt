@@ -1,6 +1,6 @@
 use Rattle.std.proofs.Common.{map, string_bytes, subst, sym}
 use Rattle.std.specs.Prelude.{IsSomeAnd}
-use Rattle.linkedit_top.specs.Causes.{FilesAfter}
+use Rattle.command_sets.specs.Causes.{FilesAfter}
 use Rattle.linkedit_top.specs.Outcome.{good_words}
 use Rattle.linkedit_top.proofs.Decided.{outcome_good}
 use Rattle.linkedit_top.proofs.top.linkedit.Goals as goal

@@ -1,6 +1,6 @@
 use Rattle.std.proofs.Common.{map, string_bytes, subst, ◌∙◌}
 use Rattle.std.specs.Prelude.{IsSomeAnd}
-use Rattle.linkedit_top.specs.Causes.{FilesAfter}
+use Rattle.command_sets.specs.Causes.{FilesAfter}
 use Rattle.linkedit_top.proofs.top.run.Goals as goal
 
 pub returns-in-Ok-clause-files : goal.returns-in-Ok-clause-files

@@ -1,0 +1,5 @@
+pub mod Names
+pub mod PrimarySets
+pub mod Refusals
+pub mod Standing
+pub mod StowedModules
