@@ -1,4 +1,5 @@
-//! Worked cases of the formats: cards, statements, records, libraries, records from a source, printed text and words.
+//! Worked cases of the outside and of the formats: data sets, cards, statements, records, libraries, records from a
+//! source, printed text and words.
 #![tactic(auto)]
 
 #[cfg(test)]
@@ -9,6 +10,8 @@ mod directories;
 mod images;
 #[cfg(test)]
 mod libraries;
+#[cfg(test)]
+mod outside;
 #[cfg(test)]
 mod records;
 #[cfg(test)]

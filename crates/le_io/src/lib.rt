@@ -24,6 +24,3 @@ pub use out_sink::OutSink;
 pub use sink::Sink;
 pub use store::{Failed, Got, SET_LIMIT, Store};
 pub use whole::{ReadStop, read_all, write_all};
-
-#[cfg(test)]
-mod tests;

@@ -35,7 +35,7 @@ impl From<AllocError> for ReadStop {
 
 /// Reads some bytes from `at` on, and none exactly at the end. At the limit it asks for one byte more, to see whether
 /// the set is too long.
-pub(crate) fn read_piece<S: Store>(
+fn read_piece<S: Store>(
     s: &mut S,
     path: &str,
     at: usize,

@@ -1,6 +1,10 @@
+//! The outside in memory and of the host: what is read, put and written, and which call fails.
 ghost use Rattle.std.specs.Prelude.{None};
 
-use super::*;
+use le_io::{
+    Failed, FileStore, Got, MemSink, MemStore, OutSink, ReadStop, SET_LIMIT, Store, read_all,
+    write_all,
+};
 use std::alloc::{AllocError, Global};
 use std::fs;
 use std::rt::Files;
@@ -95,10 +99,9 @@ impl Store for LongSet {
 
 #[test]
 fn set_past_the_limit_is_too_long(rt: HostRuntime) {
-    for (len, want) in [(SET_LIMIT, Ok(0)), (SET_LIMIT + 1, Err(ReadStop::TooLong))] {
-        let mut buffer = [0u8; 4];
+    for (len, want) in [(SET_LIMIT, None), (SET_LIMIT + 1, Some(ReadStop::TooLong))] {
         let mut set = LongSet { len, longs: 0 };
-        let got = whole::read_piece(&mut set, "a", SET_LIMIT as usize, &mut buffer);
+        let got = read_all(rt.alloc(), &mut set, "a").err();
         assert_eq!(rt; got, want, "of {len} bytes");
     }
 }
