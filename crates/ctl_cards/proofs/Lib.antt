@@ -4,8 +4,10 @@ pub mod Faults
 pub mod Items
 pub mod Loops
 pub mod Lowered
+pub mod Meanings
 pub mod NameLaws
 pub mod Places
+pub mod TakenApart
 pub mod Unique
 pub mod WalkLaws
 pub mod Whole

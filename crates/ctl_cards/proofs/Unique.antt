@@ -1,17 +1,16 @@
 -- A statement is spelled in one way, and no other statement is spelled so.
-use Rattle.std.proofs.Common.{◌≡◌, ◌≢◌, ℕ, zero, suc, ◌+◌, ◌-◌, ◌<◌, ◌≤◌, Bool, true, false, cond, eqb, List, [], ◌∷◌, ◌++◌, length, take, drop, map, Option, Some, None, Result, Ok, Err, inl, inr, arith, refl, sym, ap, subst, ◌∙◌, append_assoc}
+use Rattle.std.proofs.Common.{◌≡◌, ℕ, Bool, true, false, cond, eqb, List, [], ◌∷◌, ◌++◌, length, take, drop, map, Option, Some, None, Result, Ok, Err, inl, inr, arith, refl, sym, ap, subst, ◌∙◌, append_assoc}
 use Rattle.std.specs.Prelude.{IfOk, IfErr}
-use Rattle.std.specs.List.{list_all, flat_map, AllByRecursion}
+use Rattle.std.specs.List.{AllByRecursion}
 use Rattle.std.specs.Option.{option_to_list}
 use Rattle.std.proofs.lemmas.Bool.{true≢false, eqb-false}
-use Rattle.std.proofs.lemmas.List.{append-nil, take_at, drop_at}
+use Rattle.std.proofs.lemmas.List.{take_at, drop_at}
 use Rattle.le_bytes.specs.declared.name.Name.{Name}
-use Rattle.ctl_cards.specs.NameTexts.{begins_name, stands_in_name, written, IsWritable}
+use Rattle.ctl_cards.specs.NameTexts.{stands_in_name, written, IsWritable}
 use Rattle.ctl_cards.specs.Letters.{name_length, name_with}
-use Rattle.ctl_cards.specs.Statements.{Item, Head, Nameless, Starred, Named, joined, item_text, names_text, head_text, IsList, IsWellFormed, items_of, operand_of, include_item, library_item, replace_item, change_item, name_item, marked_item, replace_word, region_word, IsIncludeItem, IsLibraryItem, IsReplaceItem, IsChangeItem, HasFewAliases}
-use Rattle.ctl_cards.specs.Operations.{operation_of, operation_text}
+use Rattle.ctl_cards.specs.Statements.{Item, Head, Nameless, Starred, Named, joined, item_text, names_text, head_text, IsList, IsWellFormed, items_of, include_item, library_item, replace_item, change_item, name_item, marked_item, replace_word, region_word, IsIncludeItem, IsLibraryItem, IsReplaceItem, IsChangeItem, HasFewAliases}
+use Rattle.ctl_cards.specs.Operations.{operation_of}
 use Rattle.ctl_cards.specs.Grammar.{Spells, IsStatement, HasFault, AnswersUnlessMemory}
-use Rattle.ctl_cards.specs.declared.operation.Operation.{Operation}
 use Rattle.ctl_cards.specs.declared.statement.IncludeItem.{IncludeItem}
 use Rattle.ctl_cards.specs.declared.statement.LibraryItem.{LibraryItem}
 use Rattle.ctl_cards.specs.declared.statement.LibraryItem.TheVariants as library
@@ -19,7 +18,7 @@ use Rattle.ctl_cards.specs.declared.statement.Statement.{Statement}
 use Rattle.ctl_cards.specs.declared.statement.Statement.TheVariants as statement
 use Rattle.ctl_cards.specs.declared.statement.StmtFault.{StmtFault}
 use Rattle.ctl_cards.specs.declared.statement.StmtFault.TheVariants as fault
-use Rattle.ctl_cards.proofs.NameLaws.{IsWord, word-written, name_with-written, begins_stands, open_no_letter, comma_no_letter, close_no_letter, star_no_letter}
+use Rattle.ctl_cards.proofs.NameLaws.{IsWord, word-written, name_with-written, begins_stands, open_no_letter, star_no_letter}
 use Rattle.ctl_cards.proofs.Accepts.{NoLetter, name_length-word, no_letter_after, regroup_names, regroup_list, no_letter_tail}
 use Rattle.ctl_cards.proofs.Items.{tail_text, tail_names}
 use Rattle.ctl_cards.proofs.Faults.{text_injective}
@@ -204,7 +203,7 @@ region_writable : IsWritable region_word
 unfolding IsWritable written
 region_writable = refl
 
-are_items : (s : Statement) → IsWellFormed s → AreItems (items_of s)
+pub are_items : (s : Statement) → IsWellFormed s → AreItems (items_of s)
 are_items (statement.Include xs) h = list_items include_item IsIncludeItem (λ x g. g) xs h
 are_items (statement.Library xs) h = list_items library_item IsLibraryItem library_is_item xs h
 are_items (statement.Replace xs) h = list_items replace_item IsReplaceItem (λ x. replace_is_item x.0 x.1) xs h
@@ -219,7 +218,7 @@ not_empty_list : {X : Type 0} (P : X → Type 0) (xs : List X) (item : X → Ite
 not_empty_list P [] item h e = absurd h
 not_empty_list P (x ∷ xs) item h e = absurd cc
 
-some_items : (s : Statement) → IsWellFormed s → items_of s ≡ [] → ⊥
+pub some_items : (s : Statement) → IsWellFormed s → items_of s ≡ [] → ⊥
 some_items (statement.Include xs) h e = not_empty_list IsIncludeItem xs include_item h e
 some_items (statement.Library xs) h e = not_empty_list IsLibraryItem xs library_item h e
 some_items (statement.Replace xs) h e = not_empty_list IsReplaceItem xs replace_item h e

@@ -1,6 +1,7 @@
 pub mod Cards
 pub mod Grammar
 pub mod Letters
+pub mod Meaning
 pub mod NameTexts
 pub mod Operations
 pub mod Reads

@@ -6,11 +6,13 @@
 #![tactic(auto)]
 
 mod card;
+mod laws;
 mod operand;
 mod operand_item;
 mod operation;
 mod reading;
 mod statement;
 
+pub use laws::spelled_is_meant;
 pub use reading::read_statement;
 pub use statement::{IncludeItem, LibraryItem, Statement, StmtFault};

@@ -2,6 +2,7 @@
 ghost use Rattle.std.specs.Prelude.{◌≡◌, ℕ, take, ◌+◌, ◌*◌, ◌<◌, ◌≤◌, List, [], ◌∷◌, ◌++◌, length, IfOk, IfErr, MatchBool, MatchResult, Result};
 ghost use Rattle.std.specs.List.{flat_map, prefix_len};
 ghost use Rattle.ctl_cards.specs.Cards.{IsWhole, continued_count, is_continued, has_margin, operand_on, continuation_on};
+ghost use Rattle.ctl_cards.specs.Meaning.{statement_of, IsDue};
 ghost use Rattle.ctl_cards.specs.Grammar.{IsStatement, HasFault, AnswersUnlessMemory};
 ghost use Rattle.ctl_cards.specs.Reads.{ReadsStatement, ReadsOperand, CountsCards};
 ghost use Rattle.ctl_cards.specs.Statements.{HasFewAliases};
@@ -38,10 +39,13 @@ pub fn read_statement(alloc: Global, cards: &[[u8; 80]]) -> Result<(Statement, u
     requires { 0 < length cards.now }
     // What is read is spelled on the cards.
     ensures read { IfOk result (λ r. IsStatement cards.now r.0 r.1) }
+    ensures within { IfOk result (λ r. (1 ≤ r.1) × (r.1 ≤ length cards.now)) }
     // What is spelled on the cards is read.
     ensures again { (s : Statement) (n : ℕ) → IsStatement cards.now s n → AnswersUnlessMemory result s n }
     // Which fault it is.
     ensures faults { IfErr result (HasFault cards.now) }
+    // And all of it is one function of the cards.
+    ensures due { IsDue (statement_of cards.now) result }
 {
     statement_on(alloc, cards)
 }
