@@ -11,6 +11,8 @@ mod images;
 #[cfg(test)]
 mod libraries;
 #[cfg(test)]
+mod lists;
+#[cfg(test)]
 mod outside;
 #[cfg(test)]
 mod records;

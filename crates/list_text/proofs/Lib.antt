@@ -1,0 +1,6 @@
+pub mod Joining
+pub mod Placing
+pub mod WritableNames
+pub mod CardReading
+pub mod StatementCards
+pub mod CardSizes

@@ -1,0 +1,9 @@
+pub mod Padded
+pub mod Maps
+pub mod References
+pub mod Directories
+pub mod Statements
+pub mod Forms
+pub mod Pieces
+pub mod Events
+pub mod ReadBack
