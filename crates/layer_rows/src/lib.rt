@@ -8,6 +8,8 @@ mod constants;
 #[cfg(test)]
 mod decks;
 #[cfg(test)]
+mod lists;
+#[cfg(test)]
 mod modules;
 #[cfg(test)]
 mod places;

@@ -1,0 +1,3 @@
+pub mod WritableBytes
+pub mod Beginning
+pub mod Printing
