@@ -1,0 +1,9 @@
+pub mod Numbered
+pub mod Staying
+pub mod Moved
+pub mod SoundLeft
+pub mod SoundGone
+pub mod SoundRenamed
+pub mod SoundEdits
+pub mod Turns
+pub mod Clashing
