@@ -1,0 +1,4 @@
+pub mod Rules
+pub mod Calls
+pub mod Searched
+pub mod Laws
