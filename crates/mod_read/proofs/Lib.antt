@@ -1,0 +1,17 @@
+pub mod Counts
+pub mod Grouping
+pub mod JudgedFields
+pub mod JudgedRecords
+pub mod JudgedSymbols
+pub mod KeptItems
+pub mod Members
+pub mod Passing
+pub mod Places
+pub mod Positions
+pub mod SameFields
+pub mod Sound
+pub mod SoundConstants
+pub mod SoundItems
+pub mod SoundTerms
+pub mod Steps
+pub mod Together

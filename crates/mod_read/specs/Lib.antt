@@ -1,0 +1,5 @@
+pub mod Answers
+pub mod Gathered
+pub mod Judged
+pub mod Numbering
+pub mod Placed
