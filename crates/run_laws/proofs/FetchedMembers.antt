@@ -37,15 +37,15 @@ pub root_facts : (P : Laid) (scatter : Bool) (n : ℕ) → IsLinkable P → IsFo
     → walked 1 no_facts (written_bytes P scatter n) ≡ with_segment P n 1 (head_facts P scatter n)
 root_facts P scatter n link format = (written_records_gather P scatter n link format).root ∙ root_is P scatter n
 
-root_symbols : (P : Laid) (scatter : Bool) (n : ℕ) → (with_segment P n 1 (head_facts P scatter n)).symbols ≡ symbols_written P
+pub root_symbols : (P : Laid) (scatter : Bool) (n : ℕ) → (with_segment P n 1 (head_facts P scatter n)).symbols ≡ symbols_written P
 unfolding with_segment head_facts
 root_symbols P scatter n = refl
 
-root_notes : (P : Laid) (scatter : Bool) (n : ℕ) → (with_segment P n 1 (head_facts P scatter n)).notes ≡ notes_written P scatter n
+pub root_notes : (P : Laid) (scatter : Bool) (n : ℕ) → (with_segment P n 1 (head_facts P scatter n)).notes ≡ notes_written P scatter n
 unfolding with_segment head_facts
 root_notes P scatter n = refl
 
-root_fields : (P : Laid) (scatter : Bool) (n : ℕ) → (with_segment P n 1 (head_facts P scatter n)).fields ≡ fields_in P n 1
+pub root_fields : (P : Laid) (scatter : Bool) (n : ℕ) → (with_segment P n 1 (head_facts P scatter n)).fields ≡ fields_in P n 1
 unfolding with_segment head_facts
 root_fields P scatter n = refl
 
@@ -61,7 +61,7 @@ head_fields : (P : Laid) (scatter : Bool) (n : ℕ) → (head_facts P scatter n)
 unfolding head_facts
 head_fields P scatter n = refl
 
-root_held : (P : Laid) (scatter : Bool) (n : ℕ) → IsLinkable P → IsFormat P scatter n → HoldsSegment P n 1 (walked 1 no_facts (written_bytes P scatter n))
+pub root_held : (P : Laid) (scatter : Bool) (n : ℕ) → IsLinkable P → IsFormat P scatter n → HoldsSegment P n 1 (walked 1 no_facts (written_bytes P scatter n))
 root_held P scatter n link format =
     subst (HoldsSegment P n 1) (sym (root_facts P scatter n link format))
     (segment_held P n 1 (head_facts P scatter n) (head_symbols P scatter n) (head_texts P scatter n) (head_fields P scatter n))

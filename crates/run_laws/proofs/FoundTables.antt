@@ -49,7 +49,7 @@ use Rattle.run_laws.proofs.SegmentTables.{resident_is, among_of_has}
 
 -- ---- lists
 
-get_split : {X : Type 0} (xs ys : List X) (k : ℕ) (x : X) → slice_get (xs ++ ys) k ≡ Some x → (slice_get xs k ≡ Some x) ⊎ Has ys x
+pub get_split : {X : Type 0} (xs ys : List X) (k : ℕ) (x : X) → slice_get (xs ++ ys) k ≡ Some x → (slice_get xs k ≡ Some x) ⊎ Has ys x
 get_split [] ys k x there = inr (has-at ys k x there)
 get_split (z ∷ zs) ys zero x there = inl there
 get_split (z ∷ zs) ys (suc k) x there = get_split zs ys k x there
@@ -60,7 +60,7 @@ pub record Made {X Y : Type 0} (f : X → Y) (xs : List X) (k : ℕ) (y : Y) : T
   pub there : slice_get xs k ≡ Some source
   pub is : f source ≡ y
 
-made_at : {X Y : Type 0} (f : X → Y) (xs : List X) (k : ℕ) (y : Y) → slice_get (map f xs) k ≡ Some y → Made f xs k y
+pub made_at : {X Y : Type 0} (f : X → Y) (xs : List X) (k : ℕ) (y : Y) → slice_get (map f xs) k ≡ Some y → Made f xs k y
 made_at f [] k y there = absurd (none-some y there)
 made_at f (x ∷ xs) zero y there = record { source = x; there = refl; is = same (f x) y there }
   where
@@ -69,7 +69,7 @@ made_at f (x ∷ xs) zero y there = record { source = x; there = refl; is = same
 made_at f (x ∷ xs) (suc k) y there =
     let rest : Made f xs k y = made_at f xs k y there in record { source = rest.source; there = rest.there; is = rest.is }
 
-each_filter_map : {X Y : Type 0} (Q : Y → Type 0) (h : X → Option Y) (xs : List X) → Each (λ x. (y : Y) → h x ≡ Some y → Q y) xs → Each Q (filter_map h xs)
+pub each_filter_map : {X Y : Type 0} (Q : Y → Type 0) (h : X → Option Y) (xs : List X) → Each (λ x. (y : Y) → h x ≡ Some y → Q y) xs → Each Q (filter_map h xs)
 each_filter_map Q h [] all = tt
 each_filter_map {Y = Y} Q h (x ∷ xs) all = by_cases (h x) refl (each_filter_map Q h xs all.1)
   where
@@ -77,7 +77,7 @@ each_filter_map {Y = Y} Q h (x ∷ xs) all = by_cases (h x) refl (each_filter_ma
     by_cases None none rest = rest
     by_cases (Some y) some rest = (all.0 y some, rest)
 
-each_enumerated : {X : Type 0} (Q : ℕ × X → Type 0) (a : ℕ) (xs : List X) → ((k : ℕ) (x : X) → slice_get xs k ≡ Some x → Q (a + k, x)) → Each Q (enumerate_from a xs)
+pub each_enumerated : {X : Type 0} (Q : ℕ × X → Type 0) (a : ℕ) (xs : List X) → ((k : ℕ) (x : X) → slice_get xs k ≡ Some x → Q (a + k, x)) → Each Q (enumerate_from a xs)
 each_enumerated Q a [] holds = tt
 each_enumerated Q a (x ∷ xs) holds = (
   subst (λ n. Q (n, x)) (plain a) (holds 0 x refl),
@@ -101,14 +101,14 @@ by_kind x Sd proper = second_false (name_eq x.name segment_table) (name_eq x.nam
 by_kind x Pc proper = refl
 by_kind x Cm proper = refl
 
-not_named : (P : Laid) (i : ℕ) → IsLinkable P → i < length P.program.sections → (is_sd (symbol_kind (section_kind P i)) && name_eq (section_name P i) entry_table) ≡ false
+pub not_named : (P : Laid) (i : ℕ) → IsLinkable P → i < length P.program.sections → (is_sd (symbol_kind (section_kind P i)) && name_eq (section_name P i) entry_table) ≡ false
 not_named P i link inside =
     let at : Found P.program.sections i (λ x. Unit {0}) = within P.program.sections i inside in
     ap (λ o. is_sd (symbol_kind (option_map_or (λ (x : Section). x.kind) o Sd))
     && name_eq (option_map_or (λ (x : Section). name_as x.kind x.name) o blank_name) entry_table) at.found
     ∙ by_kind at.item at.item.kind (of_all IsSoundSection P.program.sections i at.item link.sound.sections at.found).kind
 
-none_behind : (P : Laid) → Each (λ x. is_sd_named entry_table x ≡ false) (after_parts P)
+pub none_behind : (P : Laid) → Each (λ x. is_sd_named entry_table x ≡ false) (after_parts P)
 none_behind P =
     each_append _ (map (label_symbol P) P.program.labels) _
     (each_map _ (label_symbol P) P.program.labels (each_always _ P.program.labels (λ y. refl)))
@@ -127,10 +127,10 @@ pub record IsTableOf (P : Laid) (Q : Placement) (resident : List ℕ) (r : Range
   pub has_entries : 0 < entry_count P segment
   pub is : table_range P Q segment ≡ r
 
-none_as : {A : Type 0} (b : Bool) (o : Option A) (r : A) → b ≡ false → (if b then o else None) ≡ Some r → ⊥
+pub none_as : {A : Type 0} (b : Bool) (o : Option A) (r : A) → b ≡ false → (if b then o else None) ≡ Some r → ⊥
 none_as b o r fails is = none-some r (sym (ap (λ c. if c then o else None) fails) ∙ is)
 
-section_within : (P : Laid) (i : ℕ) → IsPart P (OneSection i) → i < length P.program.sections
+pub section_within : (P : Laid) (i : ℕ) → IsPart P (OneSection i) → i < length P.program.sections
 section_within P i part = slice_get_within P.program.sections i part.is.section part.is.there
 
 -- the item of a part, where it is a table that is told of
@@ -200,18 +200,18 @@ find_only test (x ∷ xs) r among passes only = by_test (test x) refl among (λ 
     by_test false fails (inl same) rest = absurd (false≢true (sym fails ∙ ap test same ∙ passes))
     by_test false fails (inr later) rest = rest later
 
-find_nothing : (test : Range → Bool) (xs : List Range) → Each (λ y. test y ≡ false) xs → find test xs ≡ None
+pub find_nothing : (test : Range → Bool) (xs : List Range) → Each (λ y. test y ≡ false) xs → find test xs ≡ None
 find_nothing test [] fails = refl
 find_nothing test (x ∷ xs) fails = rw (fails.0) (find_nothing test xs fails.1)
 
-each_more : {X : Type 0} (Q R : X → Type 0) (xs : List X) → ((x : X) → Q x → R x) → Each Q xs → Each R xs
+pub each_more : {X : Type 0} (Q R : X → Type 0) (xs : List X) → ((x : X) → Q x → R x) → Each Q xs → Each R xs
 each_more Q R [] more all = tt
 each_more Q R (x ∷ xs) more all = (more x all.0, each_more Q R xs more all.1)
 
 abbrev numbered : {X : Type 0} → X → ℕ → ℕ × X
 numbered x n = (n, x)
 
-among_enumerated : {X : Type 0} (a : ℕ) (xs : List X) (k : ℕ) (x : X) → slice_get xs k ≡ Some x → Among (a + k, x) (enumerate_from a xs)
+pub among_enumerated : {X : Type 0} (a : ℕ) (xs : List X) (k : ℕ) (x : X) → slice_get xs k ≡ Some x → Among (a + k, x) (enumerate_from a xs)
 among_enumerated a [] k x there = absurd (none-some x there)
 among_enumerated a (y ∷ ys) zero x there = inl (ap (λ z. numbered z a) (is y x there) ∙ ap (numbered x) (plain a))
   where
@@ -225,7 +225,7 @@ among_enumerated {X = X} a (y ∷ ys) (suc k) x there = inr (subst (λ n. Among 
     moved : (a k : ℕ) → a + 1 + k ≡ a + suc k
     moved a k = omega arith
 
-among_filter_map : {X Y : Type 0} (h : X → Option Y) (xs : List X) (x : X) (y : Y) → Among x xs → h x ≡ Some y → Among y (filter_map h xs)
+pub among_filter_map : {X Y : Type 0} (h : X → Option Y) (xs : List X) (x : X) (y : Y) → Among x xs → h x ≡ Some y → Among y (filter_map h xs)
 among_filter_map h [] x y among some = absurd among
 among_filter_map {Y = Y} h (z ∷ zs) x y (inl same) some = rw (ap h same ∙ some) (inl refl)
 among_filter_map {Y = Y} h (z ∷ zs) x y (inr later) some = by_cases (h z) (among_filter_map h zs x y later some)

@@ -31,7 +31,7 @@ pub record IsFurther (tree : Tree) (a s : ℕ) : Type 0 where
   pub on : is_on_path tree a (parent_of tree s) ≡ true
   pub has : HasParent tree s
 
-last_or_further : (tree : Tree) (a s : ℕ) → IsTree tree → 1 ≤ s → s ≤ length tree → is_on_path tree a s ≡ true → (a ≡ s) ⊎ IsFurther tree a s
+pub last_or_further : (tree : Tree) (a s : ℕ) → IsTree tree → 1 ≤ s → s ≤ length tree → is_on_path tree a s ≡ true → (a ≡ s) ⊎ IsFurther tree a s
 last_or_further tree a s t low high on =
     elim (eqb_tells a s) as (λ _. (a ≡ s) ⊎ IsFurther tree a s) [
       | inl w ↦ inl w.1
@@ -134,7 +134,7 @@ both_on_path tree a b s = both_within s tree a b s (le_refl s)
 
 -- ---- lists of segments
 
-in_range : (a n s : ℕ) → is_in s (range_with_len a n) ≡ true → (a ≤ s) × (s < a + n)
+pub in_range : (a n s : ℕ) → is_in s (range_with_len a n) ≡ true → (a ≤ s) × (s < a + n)
 in_range a zero s there = absurd (false≢true there)
 in_range a (suc n) s there =
     elim (eqb_tells a s) as (λ _. (a ≤ s) × (s < a + suc n)) [
@@ -180,13 +180,13 @@ in_filter test (x ∷ xs) s = by_test (test x) refl (in_filter test xs s)
         none_of true c is = is
         none_of false c is = refl
 
-filter_same : (f g : ℕ → Bool) (xs : List ℕ) → Each (λ x. f x ≡ g x) xs → filter f xs ≡ filter g xs
+pub filter_same : (f g : ℕ → Bool) (xs : List ℕ) → Each (λ x. f x ≡ g x) xs → filter f xs ≡ filter g xs
 filter_same f g [] same = refl
 filter_same f g (x ∷ xs) same =
     ap (λ b. if b then x ∷ filter f xs else filter f xs) same.0
     ∙ ap (λ rest. if g x then x ∷ rest else rest) (filter_same f g xs same.1)
 
-each_segment : (Q : ℕ → Type 0) (tree : Tree) → ((s : ℕ) → 1 ≤ s → s ≤ length tree → Q s) → Each Q (segments tree)
+pub each_segment : (Q : ℕ → Type 0) (tree : Tree) → ((s : ℕ) → 1 ≤ s → s ≤ length tree → Q s) → Each Q (segments tree)
 each_segment Q tree holds =
     subst (Each Q) (sym (segments-range tree)) (range_each Q 1 (length tree) (λ s low high. holds s low (omega (arith, high))))
 

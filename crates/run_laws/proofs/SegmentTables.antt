@@ -32,7 +32,7 @@ use Rattle.run_laws.proofs.FetchedMembers.{IsFetched, count_is}
 abbrev pub row : Tree → List ℕ → ℕ → List ℕ
 row tree resident s = parent_of tree s ∷ region_of tree s ∷ status_of resident s ∷ 0 ∷ []
 
-table_is : (tree : Tree) (resident : List ℕ) → segtab_bytes tree resident
+pub table_is : (tree : Tree) (resident : List ℕ) → segtab_bytes tree resident
     ≡ (length tree ∷ regions tree ∷ replicate 6 0) ++ flat_map (row tree resident) (segments tree)
 unfolding segtab_bytes
 table_is tree resident = refl

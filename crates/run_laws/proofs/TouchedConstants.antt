@@ -6,7 +6,7 @@ use Rattle.std.proofs.lemmas.Bool.{cases_lt, false≢true, eqb-true, eq-eqb, and
 use Rattle.sym_mod.specs.declared.program.Constant.{Constant}
 use Rattle.load_recs.specs.declared.items.RldItem.{RldItem}
 use Rattle.linking_model.specs.Numbers.{is_among}
-use Rattle.linking_model.specs.Places.{Laid, place, segment_of_section}
+use Rattle.linking_model.specs.Places.{Laid, place, segment_of_section, length_of_section}
 use Rattle.linking_model.specs.Linked.{covers, constant_at}
 use Rattle.linking_model.specs.Run.{is_touched as is_touched_by_symbols}
 use Rattle.member_model.specs.Symbols.{field_length}
@@ -18,6 +18,7 @@ use Rattle.member_laws.specs.Gathered.{items_of, fields_in}
 use Rattle.member_laws.proofs.Apart.{items-fit}
 use Rattle.member_laws.proofs.Clear.{strip}
 use Rattle.member_laws.proofs.LoadingLists.{Among, at_one, each_weaker, each_both, each_map, each_flat_map, among_map, among_flat, found_among, found_passes}
+use Rattle.member_laws.proofs.LoadingSections.{lies_there}
 use Rattle.member_laws.proofs.LoadingSegment.{each_among}
 use Rattle.member_laws.proofs.LoadingSymbols.{numbers_differ}
 use Rattle.member_laws.proofs.LoadingTargets.{among_parts_in, section_among, section_is_part}
@@ -78,12 +79,12 @@ field_there P n i fields z inside holds among =
 
 -- ---- both ways
 
-same_truth : (a b : Bool) → (a ≡ true → b ≡ true) → (b ≡ true → a ≡ true) → a ≡ b
+pub same_truth : (a b : Bool) → (a ≡ true → b ≡ true) → (b ≡ true → a ≡ true) → a ≡ b
 same_truth true b one other = sym (one refl)
 same_truth false true one other = other refl
 same_truth false false one other = refl
 
-there_at : (constants : List Constant) (i k : ℕ) (c : Constant) → Among c constants → c.section ≡ i → c.offset ≤ k → k < c.offset + c.length
+pub there_at : (constants : List Constant) (i k : ℕ) (c : Constant) → Among c constants → c.section ≡ i → c.offset ≤ k → k < c.offset + c.length
     → is_some (constant_at constants i k) ≡ true
 unfolding constant_at
 there_at constants i k c among here low high =
@@ -92,14 +93,14 @@ there_at constants i k c among here low high =
     (and_from (nat_le c.offset k) (nat_lt k (c.offset + c.length)) (le-leb c.offset k low) (lt-ltb k (c.offset + c.length) high)))
 
 -- the constant in which a byte lies
-record LiesIn (constants : List Constant) (i k : ℕ) : Type 0 where
+pub record LiesIn (constants : List Constant) (i k : ℕ) : Type 0 where
   pub constant : Constant
   pub among : Among constant constants
   pub section : constant.section ≡ i
   pub from : constant.offset ≤ k
   pub to : k < constant.offset + constant.length
 
-lies_in : (constants : List Constant) (i k : ℕ) → is_some (constant_at constants i k) ≡ true → LiesIn constants i k
+pub lies_in : (constants : List Constant) (i k : ℕ) → is_some (constant_at constants i k) ≡ true → LiesIn constants i k
 unfolding constant_at
 lies_in constants i k some = by_cases (find (covers i k) constants) refl some
   where
@@ -115,6 +116,18 @@ lies_in constants i k some = by_cases (find (covers i k) constants) refl some
           from = leb-true c.offset k bounds.0;
           to = ltb-true k (c.offset + c.length) bounds.1;
         }
+
+-- a byte of a constant is a byte of its section
+pub constant_within : (P : Laid) (i k : ℕ) → IsLinkable P → is_some (constant_at P.program.constants i k) ≡ true → k < length_of_section P.program i
+constant_within P i k link some =
+    let is : LiesIn P.program.constants i k = lies_in P.program.constants i k some in
+    let fits : is.constant.offset + is.constant.length ≤ length_of_section P.program is.constant.section =
+    (lies_there P.program is.constant.section is.constant.offset is.constant.length (sound_at P is.constant link is.among).inside).inside in
+    below k is.constant.offset is.constant.length (length_of_section P.program i) is.to
+    (subst (λ j. is.constant.offset + is.constant.length ≤ length_of_section P.program j) is.section fits)
+  where
+    below : (k o l n : ℕ) → k < o + l → o + l ≤ n → k < n
+    below k o l n low fits = omega (arith, low, fits)
 
 -- what a touched item says
 record Touches (P : Laid) (i o count : ℕ) (f : Field) : Type 0 where
